@@ -1,0 +1,36 @@
+-- THE REFUSAL TABLE of document 01: the number and the place of each row. Assumes nothing.
+use Prim.Native.Nat.{ℕ}
+use Rattle.refusal.specs.declared.Refusal.{Refusal}
+use Rattle.refusal.specs.declared.Refusal.the-variants.{NoWords, WrongKind, TermCount, DomainEnd, ZeroCoefficient, TooManyNodes, TooManyEdges, TooManyWords, TooManyBooleans, ValueByte, ClauseWord, UnknownBoolean, LiteralCount, OpenClause}
+
+abbrev pub numberOf : Refusal → ℕ
+numberOf NoWords = 1
+numberOf (WrongKind at) = 2
+numberOf (TermCount at) = 3
+numberOf (DomainEnd at) = 4
+numberOf (ZeroCoefficient at) = 5
+numberOf TooManyNodes = 6
+numberOf TooManyEdges = 7
+numberOf TooManyWords = 8
+numberOf TooManyBooleans = 9
+numberOf (ValueByte at) = 10
+numberOf (ClauseWord at) = 11
+numberOf (UnknownBoolean at) = 12
+numberOf (LiteralCount at) = 13
+numberOf (OpenClause at) = 14
+
+abbrev pub placeOf : Refusal → ℕ
+placeOf NoWords = 0
+placeOf (WrongKind at) = at
+placeOf (TermCount at) = at
+placeOf (DomainEnd at) = at
+placeOf (ZeroCoefficient at) = at
+placeOf TooManyNodes = 0
+placeOf TooManyEdges = 0
+placeOf TooManyWords = 0
+placeOf TooManyBooleans = 0
+placeOf (ValueByte at) = at
+placeOf (ClauseWord at) = at
+placeOf (UnknownBoolean at) = at
+placeOf (LiteralCount at) = at
+placeOf (OpenClause at) = at

@@ -1,0 +1,25 @@
+-- THE RECORD of a node in the flat table: its fields, the words that lay it out, and the records of a list of words.
+-- Assumes nothing.
+use mathlib.Core.List.{List, [], _∷_, _++_}
+use Prim.Native.Nat.{ℕ}
+
+-- Level, lower end, upper end, and the first place in the edge list.
+pub record Record : Type 0 where
+  pub level : ℕ
+  pub lower : ℕ
+  pub upper : ℕ
+  pub first : ℕ
+
+abbrev pub recordWords : ℕ
+recordWords = 4
+
+abbrev pub laid : Record → List ℕ
+laid x = x .level ∷ x .lower ∷ x .upper ∷ x .first ∷ []
+
+-- Words past the last full record are ignored.
+unfoldable pub records : List ℕ → List Record
+records [] = []
+records (a ∷ []) = []
+records (a ∷ b ∷ []) = []
+records (a ∷ b ∷ c ∷ []) = []
+records (a ∷ b ∷ c ∷ d ∷ ws) = record { level = a; lower = b; upper = c; first = d } ∷ records ws

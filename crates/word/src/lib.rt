@@ -1,0 +1,123 @@
+// Words: kind and payload, the words that the encoder writes, and the three numbers that must not be taken for each other.
+ghost use mathlib.Core.Path.{_≡_};
+ghost use mathlib.Core.Bool.{true, false};
+ghost use Prim.Native.Nat.{ℕ, _+_, _≤_};
+ghost use Rattle.word.specs.Word.{kind, payload, domainEnd, coefficient, boolean, negated, lastBoolean, literalWord, lastCount, endWord};
+ghost use Rattle.word.specs.Edge.{Edge, to, edgeWord, edgeBoolean, edgeOf};
+
+// A Boolean variable, from 1.
+pub struct Variable(pub u32);
+
+// A node's number in the table, from 0.
+pub struct NodeNumber(pub usize);
+
+// What is left of the bound, where it is not below 0.
+pub struct Remainder(pub u32);
+
+// The end of an edge.
+pub enum Child {
+    False,
+    True,
+    Node(NodeNumber),
+}
+
+// The words of a node's record in the flat table.
+pub const RECORD: usize = 4;
+
+// The top two bits of a word.
+pub fn kind_of(w: u32) -> u32
+    ensures { λ r. ⌜ r ≡ kind w ⌝ }
+{
+    w / 0x40000000
+}
+
+// The other 30 bits.
+pub fn payload_of(w: u32) -> u32
+    ensures { λ r. ⌜ r ≡ payload w ⌝ }
+{
+    w % 0x40000000
+}
+
+// A term's domain end.
+pub fn end_of(w: u32) -> u32
+    ensures { λ r. ⌜ r ≡ domainEnd w ⌝ }
+{
+    w % 0x40000000 / 0x10000
+}
+
+// A term's coefficient.
+pub fn coefficient_of(w: u32) -> u32
+    ensures { λ r. ⌜ r ≡ coefficient w ⌝ }
+{
+    w % 0x10000
+}
+
+// A literal's Boolean.
+pub fn boolean_of(w: u32) -> Variable
+    ensures { λ r. ⌜ r .0 ≡ boolean w ⌝ }
+{
+    Variable(w % 0x20000000)
+}
+
+// Whether a literal is negated.
+pub fn is_negated(w: u32) -> bool
+    ensures { λ r. ⌜ r ≡ negated w ⌝ }
+{
+    0x20000000 <= w % 0x40000000
+}
+
+// The word of the literal that says that a Boolean is true.
+pub fn positive(b: Variable) -> u32
+    requires { ⌜ b .0 ≤ lastBoolean ⌝ }
+    ensures { λ r. ⌜ r ≡ literalWord true (b .0) ⌝ }
+{
+    0x80000000 + b.0
+}
+
+// The word of the literal that says that a Boolean is false.
+pub fn negative(b: Variable) -> u32
+    requires { ⌜ b .0 ≤ lastBoolean ⌝ }
+    ensures { λ r. ⌜ r ≡ literalWord false (b .0) ⌝ }
+{
+    0xA0000000 + b.0
+}
+
+// The end word of a clause with k literals.
+pub fn end_word(k: u32) -> u32
+    requires { ⌜ k ≤ lastCount ⌝ }
+    ensures { λ r. ⌜ r ≡ endWord k ⌝ }
+{
+    0xC0000000 + k
+}
+
+// The word of an edge.
+pub fn edge_word(c: Child) -> u32
+    requires { ⌜ edgeWord (edgeOf c) ≤ 4294967295 ⌝ }
+    ensures { λ r. ⌜ r ≡ edgeWord (edgeOf c) ⌝ }
+{
+    match c {
+        Child::False => 0xC0000000,
+        Child::True => 0xC0000001,
+        Child::Node(k) => k.0 as u32,
+    }
+}
+
+// The numbering formula: node k is Boolean D + 3 + k, after D order Booleans, T and F.
+pub fn node_variable(orders: u32, k: NodeNumber) -> Variable
+    requires { ⌜ edgeBoolean orders (to (k .0)) ≤ lastBoolean ⌝ }
+    ensures { λ r. ⌜ r .0 ≡ edgeBoolean orders (to (k .0)) ⌝ }
+{
+    Variable(orders + 3 + k.0 as u32)
+}
+
+// The Boolean of an edge's end.
+pub fn child_variable(orders: u32, c: Child) -> Variable
+    requires { ⌜ edgeBoolean orders (edgeOf c) ≤ lastBoolean ⌝ }
+    ensures { λ r. ⌜ r .0 ≡ edgeBoolean orders (edgeOf c) ⌝ }
+{
+    match c {
+        Child::False => Variable(orders + 2),
+        Child::True => Variable(orders + 1),
+        Child::Node(k) => node_variable(orders, k),
+    }
+}
