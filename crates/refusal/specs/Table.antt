@@ -1,6 +1,9 @@
 -- THE REFUSAL TABLE of document 01: the number and the place of each row. Assumes nothing.
 use Prim.Native.Nat.{ℕ}
+use mathlib.Core.Bool.{Bool, true, false}
 use Rattle.refusal.specs.declared.Refusal.{Refusal}
+use Rattle.refusal.specs.declared.Checked.{Checked}
+use Rattle.refusal.specs.declared.Checked.the-variants.{Passed, Refused}
 use Rattle.refusal.specs.declared.Refusal.the-variants.{NoWords, WrongKind, TermCount, DomainEnd, ZeroCoefficient, TooManyNodes, TooManyEdges, TooManyWords, TooManyBooleans, ValueByte, ClauseWord, UnknownBoolean, LiteralCount, OpenClause}
 
 abbrev pub numberOf : Refusal → ℕ
@@ -34,3 +37,13 @@ placeOf (ClauseWord at) = at
 placeOf (UnknownBoolean at) = at
 placeOf (LiteralCount at) = at
 placeOf (OpenClause at) = at
+
+-- Checks run in order: the next is asked where the one before has passed.
+abbrev pub andThen : Checked → Checked → Checked
+andThen Passed next = next
+andThen (Refused x) next = Refused x
+
+-- A check of one fact.
+abbrev pub unless : Bool → Refusal → Checked
+unless true x = Passed
+unless false x = Refused x

@@ -20,6 +20,12 @@ pub enum Refusal {
     OpenClause(usize),
 }
 
+// What a check finds: nothing to refuse, or the first refusal.
+pub enum Checked {
+    Passed,
+    Refused(Refusal),
+}
+
 impl Refusal {
     // The row's number.
     pub fn number(self) -> u32
