@@ -1,0 +1,10 @@
+pub mod Same
+pub mod Labels
+pub mod Keys
+pub mod Nodes
+pub mod Places
+pub mod Follow
+pub mod Standing
+pub mod Whole
+pub mod Order
+pub mod Unique
