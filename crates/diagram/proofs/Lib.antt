@@ -8,3 +8,6 @@ pub mod Standing
 pub mod Whole
 pub mod Order
 pub mod Unique
+pub mod Drawn
+pub mod Terms
+pub mod Written

@@ -4,7 +4,7 @@ use mathlib.Core.Path.{_≡_, refl, sym, ap, ap₂, subst, subst₂, _∙_}
 use mathlib.Core.Logic.{_↔_, _⊎_, inl, inr}
 use mathlib.Core.List.{List, [], _∷_}
 use mathlib.Core.Bool.{Bool, true, false, cond}
-use Prim.Native.Nat.{ℕ, zero, suc, _+_, _*_, _-_, _≤_, _<_}
+use Prim.Native.Nat.{ℕ, zero, suc, _+_, _-_, _≤_, _<_}
 use native.Mathlib.Nat.{le-refl, le-trans, not-suc-le-zero, suc-inj, ne-of-lt}
 use native.Mathlib.Omega.{arith}
 use lib.Dec.{ltb}
@@ -16,7 +16,7 @@ use Rattle.word.specs.Edge.{Edge, F, T, to}
 use Rattle.diagram.specs.Level.{Level, AllAscend, R, Choice, total, less, Same}
 use Rattle.diagram.specs.Label.{Label, label, Holds, Undecided}
 use Rattle.diagram.specs.Table.{Node, noNode, place, keysBelow, rootKeys, edgeTo, row, nodeOf, table, root}
-use Rattle.diagram.specs.Claim.{nodeAt, levelAt, OfLevel, remainder, Full, Leads, walk}
+use Rattle.diagram.specs.Claim.{nodeAt, noLevel, levelAt, OfLevel, remainder, Full, Leads, walk}
 use Rattle.diagram.proofs.Same.{less-zero, less-pos, same-refl, same-sym}
 use Rattle.diagram.proofs.Labels.{label-full, label-bounds, label-ext, Alike, alike-sym, alike-undecided, holds-alike, alike-holds, alike-label, alike-lower, label-meet, lower-alike, lower-undecided}
 use Rattle.diagram.proofs.Keys.{Among, place-in, in-at, asc-at}
@@ -294,13 +294,13 @@ module _ (ls : List Level) (a : ℤ) (g : AllAscend ls) where
       k = getD (keys i) (t .at) 0
 
       split : drop i ls ≡ l ∷ rest
-      split = drop-cons ls i (record { dom = 0; off = λ j. 0 * j }) (t .deep)
+      split = drop-cons ls i noLevel (t .deep)
 
       good : AllAscend (l ∷ rest)
       good = subst AllAscend split (goods i)
 
       below : keys (suc i) ≡ keysBelow l rest (keys i)
-      below = keysAt-suc ls (rootKeys ls a) i (record { dom = 0; off = λ j. 0 * j }) (t .deep)
+      below = keysAt-suc ls (rootKeys ls a) i noLevel (t .deep)
 
       edge : ℕ → Edge
       edge j = edgeTo rest (base (suc i)) (keys (suc i)) (less (pos k) (l .off j))

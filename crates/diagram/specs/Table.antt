@@ -81,8 +81,3 @@ table ls a = nodesFrom 1 0 ls (rootKeys ls a)
 
 unfoldable pub root : List Level → ℤ → Edge
 root ls a = edgeTo ls 0 (rootKeys ls a) a
-
--- The number of a table's edges.
-unfoldable pub edgeCount : List Node → ℕ
-edgeCount [] = 0
-edgeCount (x ∷ xs) = length (x .children) + edgeCount xs
