@@ -11,3 +11,4 @@ pub mod Unique
 pub mod Drawn
 pub mod Terms
 pub mod Written
+pub mod Reach

@@ -42,7 +42,7 @@ pub fn payload_of(w: u32) -> u32
 pub fn end_of(w: u32) -> u32
     ensures { λ r. ⌜ r ≡ domainEnd w ⌝ }
 {
-    w % 0x40000000 / 0x10000
+    payload_of(w) / 0x10000
 }
 
 // A term's coefficient.
@@ -63,7 +63,7 @@ pub fn boolean_of(w: u32) -> Variable
 pub fn is_negated(w: u32) -> bool
     ensures { λ r. ⌜ r ≡ negated w ⌝ }
 {
-    0x20000000 <= w % 0x40000000
+    0x20000000 <= payload_of(w)
 }
 
 // The word of the literal that says that a Boolean is true.
