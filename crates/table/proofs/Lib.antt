@@ -1,0 +1,3 @@
+-- Laws that the proofs of the finder use and other crates' proofs cite.
+pub mod Flat
+pub mod Laws
