@@ -3,11 +3,11 @@
 use mathlib.Core.Path.{_≡_, refl, sym, ap₂}
 use mathlib.Core.Logic.{_↔_}
 use mathlib.Core.List.{List, [], _∷_}
-use mathlib.Core.Bool.{Bool, true, false, true≢false}
+use mathlib.Core.Bool.{Bool, true, false, _&&_, true≢false}
 use Prim.Native.Nat.{ℕ}
 use lib.Dec.{eqb}
 use borrow.Author.Tests.{eqb-true, eq-eqb}
-use Rattle.comparer.specs.Bytes.{bytesOf, both, eqList, sameBytes}
+use Rattle.comparer.specs.Bytes.{bytesOf, eqList, sameBytes}
 
 eq-list-self : (xs : List ℕ) → eqList xs xs ≡ true
 unfolding eqList
@@ -21,7 +21,7 @@ eq-list-sound [] (y ∷ ys) e = absurd (true≢false (sym e))
 eq-list-sound (x ∷ xs) [] e = absurd (true≢false (sym e))
 eq-list-sound (x ∷ xs) (y ∷ ys) e = go (eqb x y) refl (λ f. eq-list-sound xs ys f) e
   where
-    go : (b : Bool) → eqb x y ≡ b → (eqList xs ys ≡ true → xs ≡ ys) → both b (eqList xs ys) ≡ true → _≡_ {A = List ℕ} (x ∷ xs) (y ∷ ys)
+    go : (b : Bool) → eqb x y ≡ b → (eqList xs ys ≡ true → xs ≡ ys) → (b && eqList xs ys) ≡ true → _≡_ {A = List ℕ} (x ∷ xs) (y ∷ ys)
     go true p again f = ap₂ (λ (z : ℕ) (zs : List ℕ). z ∷ zs) (eqb-true x y p) (again f)
     go false p again f = absurd (true≢false (sym f))
 

@@ -2,7 +2,7 @@
 -- in a turn. Assumes nothing.
 use mathlib.Core.Path.{_≡_, refl, sym, _∙_}
 use mathlib.Core.List.{List, [], _∷_}
-use mathlib.Core.Bool.{Bool, true, false}
+use mathlib.Core.Bool.{Bool, true, false, _&&_, and-false}
 use Prim.Native.Nat.{ℕ, suc, _+_, _-_, _*_, _/_, _%_, _≤_, _<_}
 use native.Mathlib.Nat.{not-suc-le-zero, le-of-suc-le-suc}
 use native.Mathlib.Numerals.{add-one}
@@ -11,7 +11,7 @@ use lib.Dec.{eqb}
 use lib.ListN.{length, getD, drop, drop-of-length-le, length-drop}
 use lib.Seq.{drop-cons}
 use borrow.Author.Tests.{eqb-true, eq-eqb, ne-eqb}
-use Rattle.comparer.specs.Bytes.{bytesOf, both, eqList}
+use Rattle.comparer.specs.Bytes.{bytesOf, eqList}
 
 -- Four bytes as one number.
 abbrev pub joined : ℕ → ℕ → ℕ → ℕ → ℕ
@@ -29,7 +29,7 @@ word-joined w h =
 -- The four tests of a word's bytes, before what follows.
 abbrev pub fourTests : ℕ → ℕ → ℕ → ℕ → ℕ → Bool → Bool
 fourTests a b c d w more =
-    both (eqb a (w / 0x1000000 % 256)) (both (eqb b (w / 0x10000 % 256)) (both (eqb c (w / 0x100 % 256)) (both (eqb d (w % 256)) more)))
+    eqb a (w / 0x1000000 % 256) && (eqb b (w / 0x10000 % 256) && (eqb c (w / 0x100 % 256) && (eqb d (w % 256) && more)))
 
 -- Four bytes that make the word pass the tests, and others fail one.
 module _ (a b c d w : ℕ) (more : Bool) (ha : a < 256) (hb : b < 256) (hc : c < 256) (hd : d < 256) (hw : w < 0x100000000) where
@@ -59,7 +59,7 @@ module _ (a b c d w : ℕ) (more : Bool) (ha : a < 256) (hb : b < 256) (hc : c <
           → (q ≡ true → b ≡ w / 0x10000 % 256)
           → (r ≡ true → c ≡ w / 0x100 % 256)
           → (s ≡ true → d ≡ w % 256)
-          → both p (both q (both r (both s more))) ≡ false
+          → (p && (q && (r && (s && more)))) ≡ false
       go false q r s tp tq tr ts = refl
       go true false r s tp tq tr ts = refl
       go true true false s tp tq tr ts = refl
@@ -72,11 +72,7 @@ shorter : (xs ys : List ℕ) → length xs < length ys → eqList xs ys ≡ fals
 unfolding eqList
 shorter xs [] h = absurd (not-suc-le-zero h)
 shorter [] (y ∷ ys) h = refl
-shorter (x ∷ xs) (y ∷ ys) h = rw (shorter xs ys (le-of-suc-le-suc h)) (never (eqb x y))
-  where
-    never : (p : Bool) → both p false ≡ false
-    never true = refl
-    never false = refl
+shorter (x ∷ xs) (y ∷ ys) h = rw (shorter xs ys (le-of-suc-le-suc h)) (and-false (eqb x y))
 
 -- Only no bytes are the bytes of no words.
 left-over : (xs : List ℕ) (m n : ℕ) → length xs ≡ n - m → m ≤ n → eqList xs [] ≡ eqb n m

@@ -1,6 +1,6 @@
 -- THE BYTES OF WORDS, and the file comparer's reply. Assumes nothing.
 use mathlib.Core.List.{List, [], _∷_}
-use mathlib.Core.Bool.{Bool, true, false}
+use mathlib.Core.Bool.{Bool, true, false, _&&_}
 use Prim.Native.Nat.{ℕ, _/_, _%_}
 use lib.Dec.{eqb}
 
@@ -9,16 +9,12 @@ unfoldable pub bytesOf : List ℕ → List ℕ
 bytesOf [] = []
 bytesOf (w ∷ ws) = w / 0x1000000 % 256 ∷ w / 0x10000 % 256 ∷ w / 0x100 % 256 ∷ w % 256 ∷ bytesOf ws
 
-abbrev pub both : Bool → Bool → Bool
-both true b = b
-both false b = false
-
 -- Whether two lists of numbers are equal.
 unfoldable pub eqList : List ℕ → List ℕ → Bool
 eqList [] [] = true
 eqList [] (y ∷ ys) = false
 eqList (x ∷ xs) [] = false
-eqList (x ∷ xs) (y ∷ ys) = both (eqb x y) (eqList xs ys)
+eqList (x ∷ xs) (y ∷ ys) = eqb x y && eqList xs ys
 
 -- THE REPLY: the bytes are the words' bytes, with none left over.
 abbrev pub sameBytes : List ℕ → List ℕ → Bool

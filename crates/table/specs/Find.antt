@@ -1,19 +1,15 @@
 -- THE FINDER'S REPLY: the first record of a level whose label holds a remainder. Assumes nothing.
 use mathlib.Core.List.{List, [], _∷_}
-use mathlib.Core.Bool.{Bool, true, false}
+use mathlib.Core.Bool.{Bool, true, false, _&&_}
 use Prim.Native.Nat.{ℕ, suc}
 use lib.Dec.{leb, eqb}
 use Rattle.word.specs.Record.{Record}
 use Rattle.table.specs.declared.Found.{Found}
 use Rattle.table.specs.declared.Found.the-variants.{At, Nothing}
 
-abbrev pub both : Bool → Bool → Bool
-both true b = b
-both false b = false
-
 -- The level is the wanted one, and the label from lower to upper holds r. With lower above upper it holds nothing.
 abbrev pub fieldsHold : ℕ → ℕ → ℕ → ℕ → ℕ → Bool
-fieldsHold level lower upper wanted r = both (eqb level wanted) (both (leb lower r) (leb r upper))
+fieldsHold level lower upper wanted r = eqb level wanted && (leb lower r && leb r upper)
 
 -- A record is of the wanted level and its label holds r. The place in the edge list is not read.
 abbrev pub holds : Record → ℕ → ℕ → Bool
