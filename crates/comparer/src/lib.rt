@@ -1,6 +1,6 @@
 // The file comparer: bytes against words.
 ghost use mathlib.Core.Path.{_≡_};
-ghost use Prim.Native.Nat.{ℕ, _+_, _*_};
+ghost use Prim.Native.Nat.{_+_, _*_};
 ghost use Rattle.comparer.specs.Bytes.{sameBytes};
 
 // The word of four bytes, most significant first.

@@ -12,7 +12,7 @@ use Rattle.word.specs.Record.{Record, records}
 use Rattle.table.specs.declared.Found.{Found}
 use Rattle.table.specs.declared.Found.the-variants.{At, Nothing}
 use Rattle.table.specs.Find.{fieldsHold, holds, foundIf, orElse, findFrom, findIn}
-use Rattle.table.proofs.Flat.{recordOf, recordAt, records-length, record-at}
+use Rattle.table.proofs.Flat.{recordOf, records-length, record-at}
 
 pub find-step : (k : ℕ) (xs : List Record) (x : Record) (wanted r : ℕ) → k < length xs
     → findFrom k (drop k xs) wanted r ≡ orElse (foundIf (holds (getD xs k x) wanted r) k) (findFrom (suc k) (drop (suc k) xs) wanted r)

@@ -9,7 +9,7 @@ use native.Mathlib.Omega.{arith}
 use lib.ListN.{length}
 use Rattle.refusal.specs.declared.Refusal.{Refusal}
 use Rattle.refusal.specs.declared.Checked.the-variants.{Passed, Refused}
-use Rattle.clause.specs.Meaning.{Literal, Clause, Values, ClauseTrue, clauseTrue, clausesOf}
+use Rattle.clause.specs.Meaning.{Clause, Values, ClauseTrue, clausesOf}
 use Rattle.tester.specs.declared.Tested.the-variants.{AllTrue, NotTrue, Unfit}
 use Rattle.tester.specs.Tested.{valueIn, valuesFrom, listFrom, passedOver, scan, tested}
 use Rattle.tester.proofs.Truth.{clause-true}

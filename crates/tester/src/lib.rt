@@ -3,7 +3,7 @@ use refusal::Checked;
 use refusal::Refusal;
 use word::Variable;
 ghost use mathlib.Core.Path.{_≡_};
-ghost use Prim.Native.Nat.{ℕ, _≤_};
+ghost use Prim.Native.Nat.{_≤_};
 ghost use lib.ListN.{length, drop};
 ghost use Rattle.clause.specs.Meaning.{literalOf, literalTrue, clausesOf};
 ghost use Rattle.tester.specs.Tested.{valueIn, valuesFrom, listFrom, scan, tested};
