@@ -15,10 +15,12 @@ fieldsHold level lower upper wanted r = eqb level wanted && (leb lower r && leb 
 abbrev pub holds : Record → ℕ → ℕ → Bool
 holds x wanted r = fieldsHold (x .level) (x .lower) (x .upper) wanted r
 
+-- The number k where the test is true.
 abbrev pub foundIf : Bool → ℕ → Found
 foundIf true k = At (record { 0 = k })
 foundIf false k = Nothing
 
+-- The first reply that has a number.
 abbrev pub orElse : Found → Found → Found
 orElse (At k) next = At k
 orElse Nothing next = next

@@ -41,6 +41,7 @@ unfoldable pub scan : Values → ℕ → ℕ → List Clause → Tested
 scan v m at [] = AllTrue
 scan v m at (c ∷ cs) = let more : Tested = scan v (suc m) (suc (at + length c)) cs in cond (passedOver v c) more (NotTrue m at)
 
+-- A refusal is the reply where there is one, and the scan's where there is none.
 abbrev pub judged : Checked → Tested → Tested
 judged Passed t = t
 judged (Refused x) t = Unfit x
