@@ -1,0 +1,30 @@
+// The file comparer: bytes against words.
+ghost use mathlib.Core.Path.{_≡_};
+ghost use Prim.Native.Nat.{_+_, _*_};
+ghost use Rattle.comparer.specs.Bytes.{sameBytes};
+
+// The word of four bytes, most significant first.
+fn word_of(a: u8, b: u8, c: u8, d: u8) -> u32
+    ensures { λ r. ⌜ r ≡ a * 0x1000000 + b * 0x10000 + c * 0x100 + d ⌝ }
+{
+    a as u32 * 0x1000000 + b as u32 * 0x10000 + c as u32 * 0x100 + d as u32
+}
+
+// Whether the bytes are the words, most significant byte first, with none left over.
+pub fn compare(bytes: &[u8], words: &[u32]) -> bool
+    ensures { λ r. ⌜ r ≡ sameBytes (now (bytes .entry)) (now (words .entry)) ⌝ }
+{
+    let full = bytes.len() / 4;
+    let mut k = 0;
+    while k < words.len() {
+        if full <= k {
+            return false;
+        }
+        let b = k * 4;
+        if word_of(bytes[b], bytes[b + 1], bytes[b + 2], bytes[b + 3]) != words[k] {
+            return false;
+        }
+        k += 1;
+    }
+    bytes.len() == k * 4
+}

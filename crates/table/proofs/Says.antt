@@ -1,0 +1,105 @@
+-- WHAT THE FINDER'S REPLY SAYS: a number is that of a record that holds the remainder, and no record before it does; "nothing" is the reply just where
+-- no record does. By induction on the records. Assumes nothing.
+use mathlib.Core.Path.{_≡_, refl, sym, ap}
+use mathlib.Core.Logic.{_↔_}
+use mathlib.Core.List.{List, [], _∷_}
+use mathlib.Core.Bool.{Bool, true, false, _&&_, true≢false}
+use Prim.Native.Nat.{ℕ, zero, suc, _+_, _≤_, _<_, zero-le, suc-le-suc}
+use native.Mathlib.Nat.{not-suc-le-zero, le-of-suc-le-suc}
+use native.Mathlib.Omega.{arith}
+use lib.Dec.{eqb, leb}
+use lib.ListN.{length, getD}
+use borrow.Author.Tests.{eqb-true, leb-true, eq-eqb, le-leb}
+use Rattle.word.specs.Record.{Record}
+use Rattle.table.specs.declared.Found.{Found}
+use Rattle.table.specs.declared.Found.the-variants.{At, Nothing}
+use Rattle.table.specs.Find.{fieldsHold, holds, foundIf, orElse, findFrom}
+
+-- THE TEST of a record's fields is true just where the level is the wanted one and the label holds r.
+pub fields-hold : (level lower upper wanted r : ℕ)
+    → (fieldsHold level lower upper wanted r ≡ true) ↔ ((level ≡ wanted) × (lower ≤ r) × (r ≤ upper))
+fields-hold level lower upper wanted r = (
+  go (eqb level wanted) (leb lower r) (leb r upper) (eqb-true level wanted) (leb-true lower r) (leb-true r upper),
+  λ h. rw (eq-eqb level wanted (h .0), le-leb lower r (h .1), le-leb r upper (h .2)),
+)
+  where
+    go : (a b c : Bool)
+        → (a ≡ true → level ≡ wanted)
+        → (b ≡ true → lower ≤ r)
+        → (c ≡ true → r ≤ upper)
+        → (a && (b && c)) ≡ true
+        → (level ≡ wanted) × (lower ≤ r) × (r ≤ upper)
+    go true true true p q s e = (p refl, q refl, s refl)
+    go true true false p q s e = absurd (true≢false (sym e))
+    go true false c p q s e = absurd (true≢false (sym e))
+    go false b c p q s e = absurd (true≢false (sym e))
+
+-- A stand-in for a record past the last.
+abbrev pub none : Record
+none = record { level = 0; lower = 0; upper = 0; first = 0 }
+
+-- No record before record i holds the remainder.
+abbrev pub NoneBefore : List Record → ℕ → ℕ → ℕ → Type 0
+NoneBefore xs i wanted r = (j : ℕ) → j < i → holds (getD xs j none) wanted r ≡ false
+
+pub find-none : (xs : List Record) (k wanted r : ℕ) → NoneBefore xs (length xs) wanted r → findFrom k xs wanted r ≡ Nothing
+unfolding findFrom
+find-none [] k wanted r h = refl
+find-none (x ∷ xs) k wanted r h =
+    rw (h 0 (suc-le-suc zero-le)) (find-none xs (suc k) wanted r (λ j l. h (suc j) (suc-le-suc l)))
+
+pub find-first : (xs : List Record) (k i wanted r : ℕ) → i < length xs → NoneBefore xs i wanted r → holds (getD xs i none) wanted r ≡ true
+    → findFrom k xs wanted r ≡ At (record { 0 = k + i })
+unfolding findFrom
+find-first [] k i wanted r l h e = absurd (not-suc-le-zero l)
+find-first (x ∷ xs) k zero wanted r l h e = let z : k + 0 ≡ k = omega arith in rw (e, z)
+find-first (x ∷ xs) k (suc i) wanted r l h e =
+    let z : k + suc i ≡ suc k + i = omega arith in
+    rw (h 0 (suc-le-suc zero-le), z) (find-first xs (suc k) i wanted r (le-of-suc-le-suc l) (λ j m. h (suc j) (suc-le-suc m)) e)
+
+-- One record in front that does not hold the remainder.
+one-more : (x : Record) (xs : List Record) (i wanted r : ℕ) → holds x wanted r ≡ false → NoneBefore xs i wanted r → NoneBefore (x ∷ xs) (suc i) wanted r
+one-more x xs i wanted r e h zero l = e
+one-more x xs i wanted r e h (suc j) l = h j (le-of-suc-le-suc l)
+
+-- The reply n, where the list's own first record has the number k, is record i of the list.
+pub record First (xs : List Record) (k wanted r n : ℕ) : Type 0 where
+  pub i : ℕ
+  pub number : n ≡ k + i
+  pub within : i < length xs
+  pub held : holds (getD xs i none) wanted r ≡ true
+  pub before : NoneBefore xs i wanted r
+
+abbrev number-of : Found → ℕ
+number-of (At k) = k .0
+number-of Nothing = 0
+
+pub found-says : (xs : List Record) (k wanted r n : ℕ) → findFrom k xs wanted r ≡ At (record { 0 = n }) → First xs k wanted r n
+unfolding findFrom
+found-says [] k wanted r n e = let z : _≡_ {A = ℕ} 0 1 = cc in absurd (omega arith)
+found-says (x ∷ xs) k wanted r n e = go (holds x wanted r) refl (λ q. found-says xs (suc k) wanted r n q) e
+  where
+    go : (b : Bool) → holds x wanted r ≡ b → (findFrom (suc k) xs wanted r ≡ At (record { 0 = n }) → First xs (suc k) wanted r n)
+        → orElse (foundIf b k) (findFrom (suc k) xs wanted r) ≡ At (record { 0 = n }) → First (x ∷ xs) k wanted r n
+    go true h again q =
+        let same : k ≡ n = ap number-of q in
+        record { i = 0; number = omega arith; within = suc-le-suc zero-le; held = h; before = λ j l. absurd (not-suc-le-zero l) }
+    go false h again q =
+        let f = again q in
+        record {
+          i = suc (f .i);
+          number = omega (arith, f .number);
+          within = suc-le-suc (f .within);
+          held = f .held;
+          before = one-more x xs (f .i) wanted r h (f .before);
+        }
+
+pub nothing-says : (xs : List Record) (k wanted r : ℕ) → findFrom k xs wanted r ≡ Nothing → NoneBefore xs (length xs) wanted r
+unfolding findFrom
+nothing-says [] k wanted r e = λ j l. absurd (not-suc-le-zero l)
+nothing-says (x ∷ xs) k wanted r e = go (holds x wanted r) refl (λ q. nothing-says xs (suc k) wanted r q) e
+  where
+    go : (b : Bool) → holds x wanted r ≡ b → (findFrom (suc k) xs wanted r ≡ Nothing → NoneBefore xs (length xs) wanted r)
+        → orElse (foundIf b k) (findFrom (suc k) xs wanted r) ≡ Nothing → NoneBefore (x ∷ xs) (suc (length xs)) wanted r
+    go true h again q = let z : _≡_ {A = ℕ} 0 1 = cc in absurd (omega arith)
+    go false h again q = one-more x xs (length xs) wanted r h (again q)

@@ -1,0 +1,51 @@
+-- THE CLAUSE TESTER'S REPLY to value bytes and a clause list. Assumes nothing.
+use mathlib.Core.List.{List, [], _∷_}
+use mathlib.Core.Bool.{Bool, true, false, cond, _&&_}
+use Prim.Native.Nat.{ℕ, zero, suc, _+_}
+use lib.Dec.{leb, eqb}
+use lib.ListN.{length, getD}
+use Rattle.word.specs.Word.{kind, payload, boolean}
+use Rattle.refusal.specs.Table.{andThen, unless}
+use Rattle.refusal.specs.declared.Checked.{Checked}
+use Rattle.refusal.specs.declared.Checked.the-variants.{Passed, Refused}
+use Rattle.refusal.specs.declared.Refusal.the-variants.{ValueByte, ClauseWord, UnknownBoolean, LiteralCount, OpenClause}
+use Rattle.clause.specs.Meaning.{Clause, Values, clausesOf, clauseTrue}
+use Rattle.tester.specs.declared.Tested.{Tested}
+use Rattle.tester.specs.declared.Tested.the-variants.{AllTrue, NotTrue, Unfit}
+
+-- The value of a Boolean: byte v − 1 for Boolean v.
+abbrev pub valueIn : List ℕ → Values
+valueIn bs zero = false
+valueIn bs (suc b) = eqb (getD bs b 0) 1
+
+-- Refusal 10, from a place on: every value byte is 0 or 1.
+unfoldable pub valuesFrom : ℕ → List ℕ → Checked
+valuesFrom at [] = Passed
+valuesFrom at (b ∷ bs) = andThen (unless (leb b 1) (ValueByte at)) (valuesFrom (suc at) bs)
+
+-- Refusals 11, 12 and 13 word by word, and 14 at the end: n Booleans have values, and k literals stand since the last end word.
+unfoldable pub listFrom : ℕ → ℕ → ℕ → List ℕ → Checked
+listFrom n at k [] = unless (eqb k 0) (OpenClause at)
+listFrom n at k (w ∷ ws) =
+    let end : Checked = andThen (unless (eqb (payload w) k) (LiteralCount at)) (listFrom n (suc at) 0 ws) in
+    let literal : Checked = andThen (unless (leb 1 (boolean w) && leb (boolean w) n) (UnknownBoolean at)) (listFrom n (suc at) (suc k) ws) in
+    cond (eqb (kind w) 3) end (cond (eqb (kind w) 2) literal (Refused (ClauseWord at)))
+
+-- The scan goes past a clause that is empty or has a true literal.
+abbrev pub passedOver : Values → Clause → Bool
+passedOver v [] = true
+passedOver v (l ∷ c) = clauseTrue v (l ∷ c)
+
+-- The first clause that is not passed over: m clauses came before, and the next begins at `at`.
+unfoldable pub scan : Values → ℕ → ℕ → List Clause → Tested
+scan v m at [] = AllTrue
+scan v m at (c ∷ cs) = let more : Tested = scan v (suc m) (suc (at + length c)) cs in cond (passedOver v c) more (NotTrue m at)
+
+-- A refusal is the reply where there is one, and the scan's where there is none.
+abbrev pub judged : Checked → Tested → Tested
+judged Passed t = t
+judged (Refused x) t = Unfit x
+
+-- THE REPLY: every check comes before the scan.
+unfoldable pub tested : List ℕ → List ℕ → Tested
+tested bs ws = judged (andThen (valuesFrom 0 bs) (listFrom (length bs) 0 0 ws)) (scan (valueIn bs) 0 0 (clausesOf ws))
