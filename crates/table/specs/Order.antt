@@ -1,0 +1,53 @@
+-- RECORDS IN ORDER: by level, then by label, no two labels of a level overlapping; the place of a remainder among them, and putting a record in.
+-- Assumes nothing.
+use Prim.Native.Nat.{ℕ, zero, suc, _+_, _*_, _≤_, _<_}
+use mathlib.Core.Logic.{_⊎_}
+use mathlib.Core.Path.{_≡_}
+use mathlib.Core.List.{List, [], _∷_}
+use lib.ListN.{length, getD, take}
+use Rattle.word.specs.Record.{Record, records}
+
+-- The first n records of a list of words.
+abbrev pub used : List ℕ → ℕ → List Record
+used t n = take n (records t)
+
+-- A level and a number of 32 bits as one number: by level first.
+abbrev pub key : ℕ → ℕ → ℕ
+key level x = level * 4294967296 + x
+
+-- x's label ends before y's begins, at one level, or x's level is the smaller.
+abbrev pub Before : Record → Record → Type 0
+Before x y = key (x .level) (x .upper) < key (y .level) (y .lower)
+
+-- The lower end is not above the upper, which is a word.
+abbrev pub Proper : Record → Type 0
+Proper x = (x .lower ≤ x .upper) × (x .upper < 4294967296)
+
+-- y is one of the records.
+abbrev pub Among : Record → List Record → Type 0
+Among y [] = ⊥
+Among y (x ∷ xs) = (y ≡ x) ⊎ Among y xs
+
+-- In order: each record comes before all that follow.
+unfoldable pub All : (Record → Type 0) → List Record → Type 0
+All P [] = Unit
+All P (x ∷ xs) = P x × All P xs
+
+unfoldable pub Sorted : List Record → Type 0
+Sorted [] = Unit
+Sorted (x ∷ xs) = Proper x × All (Before x) xs × Sorted xs
+
+abbrev pub noRecord : Record
+noRecord = record { level = 0; lower = 0; upper = 0; first = 0 }
+
+-- The first p records lie wholly before x at the level, and no other does.
+pub record Placed (xs : List Record) (level x p : ℕ) : Type 0 where
+  pub within : p ≤ length xs
+  pub before : (k : ℕ) → k < p → key (getD xs k noRecord .level) (getD xs k noRecord .upper) < key level x
+  pub after : (k : ℕ) → p ≤ k → k < length xs → key level x ≤ key (getD xs k noRecord .level) (getD xs k noRecord .upper)
+
+-- A record put in at number p.
+unfoldable pub insertAt : ℕ → Record → List Record → List Record
+insertAt zero x xs = x ∷ xs
+insertAt (suc p) x [] = x ∷ []
+insertAt (suc p) x (y ∷ ys) = y ∷ insertAt p x ys
