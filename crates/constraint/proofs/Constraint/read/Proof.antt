@@ -1,3 +1,5 @@
+use mathlib.Core.Path.{_≡_, sym, _∙_}
+use Rattle.constraint.specs.Held.{readOf}
 use borrow.Author.Needs.{needs}
 use Rattle.constraint.proofs.Constraint.read.Statement.{statement}
 use Rattle.constraint.proofs.Constraint.read.Tie as tie
@@ -17,7 +19,7 @@ enum-told c = search needs
 
 -- src/lib.rt:165:29
 make-requires : tie.Need-make-requires
-make-requires c κs = ?
+make-requires c κs = sym (c .before .before .check .ensures) ∙ c .enum-told .given .1
 
 -- src/lib.rt:167:30
 enum-known-x : tie.Need-enum-known-x
@@ -29,11 +31,13 @@ blank-requires c κs = search needs
 
 -- src/lib.rt:159:5
 returns : tie.Need-returns
-returns c = ?
+unfolding readOf
+returns c = let passed = sym (c .before .before .before .check .ensures) ∙ c .before .enum-told .given .1 in rw (c .make .ensures, passed)
 
 -- src/lib.rt:159:5
 returns-2 : tie.Need-returns-2
-returns-2 c = ?
+unfolding readOf
+returns-2 c = let refused = sym (c .before .before .before .before .check .ensures) ∙ c .before .before .x .given .1 in rw (c .blank .ensures, refused)
 
 pub read-spec : {M : Type 1} → statement M
 read-spec =
