@@ -1,14 +1,14 @@
 -- The laws of constraints read from words: they are within the limits, their sums fit a word, and where the record holds each term's parts.
 -- By induction over the words and the terms. Assumes nothing.
-use mathlib.Core.Path.{_≡_, refl, ap, sym, _∙_}
+use mathlib.Core.Path.{_≡_, refl, ap, _∙_}
 use mathlib.Core.Bool.{Bool, true, false, _&&_}
-use mathlib.Core.List.{List, [], _∷_, _++_, map}
-use Prim.Native.Nat.{ℕ, zero, suc, _+_, _-_, _*_, _≤_, _<_}
+use mathlib.Core.List.{List, [], _∷_, map}
+use Prim.Native.Nat.{ℕ, zero, suc, _-_, _*_, _≤_, _<_}
 use native.Mathlib.Omega.{arith}
 use native.Mathlib.Nat.{mul-le-mul}
 use borrow.Author.Tests.{leb-true}
 use lib.Dec.{leb, eqb}
-use lib.ListN.{length, getD, drop, replicate, length-map, List·getD-append}
+use lib.ListN.{length, getD, drop, length-map, List·getD-append}
 use Rattle.word.specs.Padded.{padded}
 use Rattle.word.specs.Word.{kind, coefficient, domainEnd}
 use Rattle.refusal.specs.Table.{andThen, unless}
@@ -72,7 +72,7 @@ checked-within (w ∷ ws) e =
     record {
       some = rw length-map (count .0);
       few = rw length-map (count .1);
-      each = each-limited 1 ws (third .1)
+      each = each-limited 1 ws (third .1);
     }
 
 -- The bound of stated constraints has 30 bits.
@@ -130,7 +130,7 @@ at-of-map f (u ∷ ts) zero t h = refl
 at-of-map f (u ∷ ts) (suc i) t h = at-of-map f ts i t (omega arith)
 
 at-of-padded : (f : Term → ℕ) (n : ℕ) (ts : List Term) (i : ℕ) (t : Term) → i < length ts
-  → getD (padded n (map f ts)) i 0 ≡ f (getD ts i t)
+    → getD (padded n (map f ts)) i 0 ≡ f (getD ts i t)
 at-of-padded f n ts i t h = List·getD-append (map f ts) _ 0 i (rw length-map h) ∙ at-of-map f ts i t h
 
 at-of-rests : (ls : List Level) (i : ℕ) → i ≤ length ls → getD (restsOf ls) i 0 ≡ R (drop i ls)
@@ -141,17 +141,17 @@ at-of-rests (l ∷ ls) (suc i) h = at-of-rests ls i (omega arith)
 
 -- WHERE THE RECORD HOLDS the parts of each term, from place 0 on, and each R; t is what the terms are read with past their end.
 pub coefficient-at : (c : Constraint) (i : ℕ) (t : Term) → i < length (c .terms)
-  → getD (recordOf c .coefficients) i 0 ≡ getD (c .terms) i t .coef
+    → getD (recordOf c .coefficients) i 0 ≡ getD (c .terms) i t .coef
 unfolding recordOf
 coefficient-at c i t h = at-of-padded (λ (u : Term). u .coef) 64 (c .terms) i t h
 
 pub end-at : (c : Constraint) (i : ℕ) (t : Term) → i < length (c .terms)
-  → getD (recordOf c .ends) i 0 ≡ getD (c .terms) i t .end
+    → getD (recordOf c .ends) i 0 ≡ getD (c .terms) i t .end
 unfolding recordOf
 end-at c i t h = at-of-padded (λ (u : Term). u .end) 64 (c .terms) i t h
 
 pub rest-at : (c : Constraint) (i : ℕ) → i ≤ length (c .terms)
-  → getD (recordOf c .rests) i 0 ≡ R (drop i (levels (c .terms)))
+    → getD (recordOf c .rests) i 0 ≡ R (drop i (levels (c .terms)))
 unfolding recordOf
 rest-at c i h =
     let ls = levels (c .terms) in

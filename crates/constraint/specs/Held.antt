@@ -32,7 +32,7 @@ recordOf c =
       orders = orders (levels (c .terms));
       coefficients = padded 64 (map (λ (t : Term). t .coef) (c .terms));
       ends = padded 64 (map (λ (t : Term). t .end) (c .terms));
-      rests = padded 65 (restsOf (levels (c .terms)))
+      rests = padded 65 (restsOf (levels (c .terms)));
     }
 
 -- The constraint where its words pass the check, and else the blank one.

@@ -27,7 +27,9 @@ pub struct Read {
 impl Constraint {
     // The most terms, and the greatest domain end and coefficient.
     pub const TERMS: usize = 64;
+
     pub const END: u32 = 15;
+
     pub const COEFFICIENT: u32 = 65535;
 
     // A term's coefficient: the field of a word holds no more than the greatest.
@@ -112,9 +114,9 @@ impl Constraint {
         ensures { λ r. ⌜ r ≡ recordOf (stated (now (words .entry))) ⌝ }
     {
         let terms = words.len() - 1;
-        let mut coefficients = [0u32; 64];
-        let mut ends = [0u32; 64];
-        let mut rests = [0u32; 65];
+        let mut coefficients = [0u32; Self::TERMS];
+        let mut ends = [0u32; Self::TERMS];
+        let mut rests = [0u32; Self::TERMS + 1];
         let mut orders: u32 = 0;
         let mut rest: u32 = 0;
         let mut at = terms;
@@ -148,9 +150,9 @@ impl Constraint {
             bound: 0,
             terms: 0,
             orders: 0,
-            coefficients: [0u32; 64],
-            ends: [0u32; 64],
-            rests: [0u32; 65],
+            coefficients: [0u32; Self::TERMS],
+            ends: [0u32; Self::TERMS],
+            rests: [0u32; Self::TERMS + 1],
         }
     }
 

@@ -1,69 +1,52 @@
-use Rattle.constraint.proofs.Steps.{up-to-in, up-to-below, up-to-above}
-use Prim.Native.Nat.{ℕ, _-_, _+_}
-use native.Mathlib.Omega.{arith}
-use mathlib.Core.Path.{_≡_, refl, sym, ap, _∙_}
+-- `constraint::Constraint::check` meets its contract: at each return the tests on the way, and what the two loops' functions ensure, decide
+-- the parts of the definition one after the other. Assumes nothing.
+use mathlib.Core.Path.{sym, _∙_}
 use mathlib.Core.Logic.{⊎-elim}
-use borrow.Author.Tests.{eq-eqb, ne-eqb, ltb-true, ltb-false}
-use lib.ListN.{length, getD}
-use Rattle.word.specs.Word.{kind}
-use Rattle.constraint.proofs.Steps.{checked-none, checked-first, checked-kinds, checked-count, checked-terms}
+use Prim.Native.Nat.{_-_}
+use native.Mathlib.Omega.{arith}
+use borrow.Author.Tests.{ltb-true, ltb-false}
 use borrow.Author.Needs.{needs}
+use lib.ListN.{length}
+use Rattle.constraint.proofs.Checking.{up-to-in, up-to-below, up-to-above, checked-none, checked-first, checked-kinds, checked-count, checked-terms}
 use Rattle.constraint.proofs.Constraint.check.Statement.{statement}
 use Rattle.constraint.proofs.Constraint.check.Tie as tie
-use Rattle.constraint.proofs.Constraint.check.Reads as reads
-use Rattle.constraint.proofs.Constraint.check.Lts as lts
-use Rattle.constraint.proofs.Constraint.check_kinds.Reads as check-kinds-reads
-use Rattle.constraint.proofs.Constraint.check_terms.Reads as check-terms-reads
-use Rattle.word.proofs.kind_of.Reads as kind-of-reads
 
--- src/lib.rt:92:13
 returns : tie.Need-returns
 returns c = sym (checked-none (c .before .before .args .words .now) (omega arith))
 
--- src/lib.rt:94:26
 shared-slice-read-kind-of : tie.Need-shared-slice-read-kind-of
 shared-slice-read-kind-of c = search needs
 
--- src/lib.rt:94:12
 kind-of-requires : tie.Need-kind-of-requires
 kind-of-requires c κs = search needs
 
--- src/lib.rt:95:13
 returns-2 : tie.Need-returns-2
 returns-2 c = sym (checked-first (c .before .before .before .before .before .args .words .now) (omega arith) (omega arith))
 
--- src/lib.rt:97:15
 check-kinds-requires : tie.Need-check-kinds-requires
 check-kinds-requires c κs = search needs
 
--- src/lib.rt:98:30
 enum-known-x : tie.Need-enum-known-x
 enum-known-x c = search needs
 
--- src/lib.rt:100:29
 enum-told : tie.Need-enum-told
 enum-told c = search needs
 
--- src/lib.rt:100:29
 sub-terms : tie.Need-sub-terms
 sub-terms c = search needs
 
--- src/lib.rt:102:21
 returns-3 : tie.Need-returns-3
 returns-3 c = let ws = c .before .before .before .before .before .before .before .before .before .args .words .now in
     let kinds = sym (c .before .before .before .check-kinds .ensures) ∙ c .before .enum-told .given .1 in
     sym (checked-count ws (omega arith) (omega arith) kinds
-      (⊎-elim (λ u. up-to-below 64 (length ws - 1) (omega arith)) (λ u. up-to-above 64 (length ws - 1) (omega arith) (omega (arith, ltb-true))) (c .if3 .came)))
+    (⊎-elim (λ u. up-to-below 64 (length ws - 1) (omega arith)) (λ u. up-to-above 64 (length ws - 1) (omega arith) (omega (arith, ltb-true))) (c .if3 .came)))
 
--- src/lib.rt:104:17
 check-terms-requires : tie.Need-check-terms-requires
 check-terms-requires c κs = search needs
 
--- src/lib.rt:87:5
 returns-4 : tie.Need-returns-4
 returns-4 c = sym (checked-kinds (c .before .before .before .before .before .before .before .before .before .args .words .now) (omega arith) (omega arith) _ (sym (c .before .before .before .check-kinds .ensures) ∙ c .before .x .given .1))
 
--- src/lib.rt:87:5
 returns-5 : tie.Need-returns-5
 returns-5 c = let ws = c .before .before .before .before .before .before .before .before .before .before .before .args .words .now in
     let kinds = sym (c .before .before .before .before .before .check-kinds .ensures) ∙ c .before .before .before .enum-told .given .1 in

@@ -1,38 +1,28 @@
-use borrow.Author.Tests.{le-leb, lt-leb, ltb-true, ltb-false}
-use Rattle.word.specs.Word.{domainEnd, coefficient}
-use Rattle.constraint.proofs.Steps.{up-to-in, up-to-below, up-to-above}
-use Prim.Native.Nat.{ℕ, _≤_, _<_, _+_, _*_, _-_}
-use native.Mathlib.Omega.{arith}
-use lib.ListN.{length, getD}
+-- `constraint::Constraint::check_term` meets its contract: the tests of the code are those of the definition, in its order.
+-- Assumes nothing.
 use mathlib.Core.Logic.{⊎-elim}
-use mathlib.Core.Path.{_≡_}
+use native.Mathlib.Omega.{arith}
+use borrow.Author.Tests.{le-leb, lt-leb, ltb-true, ltb-false}
 use borrow.Author.Needs.{needs}
+use Rattle.word.specs.Word.{domainEnd, coefficient}
+use Rattle.constraint.proofs.Checking.{up-to-in, up-to-below, up-to-above}
 use Rattle.constraint.proofs.Constraint.check_term.Statement.{statement}
 use Rattle.constraint.proofs.Constraint.check_term.Tie as tie
-use Rattle.constraint.proofs.Constraint.check_term.Reads as reads
-use Rattle.constraint.proofs.Constraint.check_term.Lts as lts
-use Rattle.constraint.proofs.Constraint.coefficient.Reads as coefficient-reads
-use Rattle.word.proofs.end_of.Reads as end-of-reads
 
--- src/lib.rt:58:13
 end-of-requires : tie.Need-end-of-requires
 end-of-requires c κs = search needs
 
--- src/lib.rt:60:13
 returns : tie.Need-returns
 returns c = let end = domainEnd (c .before .before .args .w) in
     ⊎-elim (λ u. rw (up-to-below 15 end (omega arith))) (λ u. rw (up-to-above 15 end (omega arith) (omega (arith, ltb-true)))) (c .if1 .came)
 
--- src/lib.rt:62:12
 coefficient-requires : tie.Need-coefficient-requires
 coefficient-requires c κs = search needs
 
--- src/lib.rt:63:13
 returns-2 : tie.Need-returns-2
 returns-2 c = let w = c .before .before .before .before .before .args .w in
     rw (up-to-in 15 (domainEnd w) (omega arith) (omega (arith, ltb-false)), lt-leb 1 (coefficient w) (omega arith))
 
--- src/lib.rt:55:5
 returns-3 : tie.Need-returns-3
 returns-3 c = let w = c .before .before .before .before .before .args .w in
     rw (up-to-in 15 (domainEnd w) (omega arith) (omega (arith, ltb-false)), le-leb 1 (coefficient w) (omega arith))
