@@ -3,9 +3,9 @@
 use mathlib.Core.Path.{_≡_, refl, ap, _∙_}
 use mathlib.Core.Bool.{Bool, true, false, _&&_}
 use mathlib.Core.List.{List, [], _∷_, map}
-use Prim.Native.Nat.{ℕ, zero, suc, _-_, _*_, _≤_, _<_}
+use Prim.Native.Nat.{ℕ, zero, suc, _+_, _-_, _*_, _≤_, _<_}
 use native.Mathlib.Omega.{arith}
-use native.Mathlib.Nat.{mul-le-mul}
+use native.Mathlib.Nat.{mul-le-mul, mul-suc}
 use borrow.Author.Tests.{leb-true}
 use lib.Dec.{leb, eqb}
 use lib.ListN.{length, getD, drop, length-map, List·getD-append}
@@ -81,28 +81,32 @@ unfolding stated
 bound-fits [] = omega arith
 bound-fits (w ∷ ws) = omega arith
 
--- A greatest sum and a count of order Booleans, by the number of terms.
+-- What each term adds at most, times the number of terms, is the most that they add: for R and for D.
+by-length : (total : List Level → ℕ) (most : ℕ) → total [] ≡ 0
+    → ((t : Term) (ts : List Term) → Limited t → total (levels (t ∷ ts)) ≤ most + total (levels ts))
+    → (ts : List Term) → AllLimited ts → total (levels ts) ≤ most * length ts
+by-length total most none one [] a = omega (arith, none)
+by-length total most none one (t ∷ ts) (l, a) =
+    rw (mul-suc most (length ts)) (omega (arith, one t ts l, by-length total most none one ts a))
+
 pub rest-by-length : (ts : List Term) → AllLimited ts → R (levels ts) ≤ 983025 * length ts
-rest-by-length [] a = omega arith
-rest-by-length (t ∷ ts) (l, a) =
-    let more = rest-by-length ts a in
-    let here : t .coef * t .end ≤ 65535 * 15 = mul-le-mul (l .3) (l .1) in
-    omega arith
+rest-by-length = by-length R 983025 refl (λ t ts l. let here : t .coef * t .end ≤ 65535 * 15 = mul-le-mul (l .3) (l .1) in omega arith)
 
 pub orders-by-length : (ts : List Term) → AllLimited ts → orders (levels ts) ≤ 15 * length ts
-orders-by-length [] a = omega arith
-orders-by-length (t ∷ ts) (l, a) = let more = orders-by-length ts a in let here : t .end ≤ 15 = l .1 in omega arith
+orders-by-length = by-length orders 15 refl (λ t ts l. omega (arith, l .1))
 
--- The levels from a place on have no greater sum than all.
+-- The levels from a place on add no more than all: for R and for D.
+falls : (total : List Level → ℕ) → ((l : Level) (ls : List Level) → total ls ≤ total (l ∷ ls))
+    → (ls : List Level) (i : ℕ) → total (drop i ls) ≤ total ls
+falls total more ls zero = omega arith
+falls total more [] (suc i) = omega arith
+falls total more (l ∷ ls) (suc i) = omega (arith, falls total more ls i, more l ls)
+
 pub rest-falls : (ls : List Level) (i : ℕ) → R (drop i ls) ≤ R ls
-rest-falls ls zero = omega arith
-rest-falls [] (suc i) = omega arith
-rest-falls (l ∷ ls) (suc i) = let more = rest-falls ls i in omega arith
+rest-falls = falls R (λ l ls. omega arith)
 
 pub orders-fall : (ls : List Level) (i : ℕ) → orders (drop i ls) ≤ orders ls
-orders-fall ls zero = omega arith
-orders-fall [] (suc i) = omega arith
-orders-fall (l ∷ ls) (suc i) = let more = orders-fall ls i in omega arith
+orders-fall = falls orders (λ l ls. omega arith)
 
 -- EVERY R is at most 62,913,600, and D at most 960.
 pub rest-fits : (c : Constraint) → Within c → (i : ℕ) → R (drop i (levels (c .terms))) ≤ 62913600
@@ -111,6 +115,7 @@ rest-fits c w i = omega (arith, rest-falls (levels (c .terms)) i, rest-by-length
 pub orders-fit : (c : Constraint) → Within c → orders (levels (c .terms)) ≤ 960
 orders-fit c w = omega (arith, orders-by-length (c .terms) (w .each), w .few)
 
+-- Levels, term by term.
 pub levels-drop : (ts : List Term) (i : ℕ) → drop i (levels ts) ≡ levels (drop i ts)
 levels-drop ts zero = refl
 levels-drop [] (suc i) = refl
