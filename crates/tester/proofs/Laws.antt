@@ -12,7 +12,7 @@ use Rattle.refusal.specs.declared.Checked.the-variants.{Passed, Refused}
 use Rattle.clause.specs.Meaning.{Clause, Values, ClauseTrue, clausesOf}
 use Rattle.tester.specs.declared.Tested.the-variants.{AllTrue, NotTrue, Unfit}
 use Rattle.tester.specs.Tested.{valueIn, valuesFrom, listFrom, passedOver, scan, tested}
-use Rattle.tester.proofs.Truth.{clause-true}
+use Rattle.clause.proofs.Truth.{clause-true}
 
 -- A clause with a literal has a true one.
 abbrev pub TrueUnlessEmpty : Values → Clause → Type 0
