@@ -1,6 +1,6 @@
 -- THE SEARCH BY HALVES among records in order: the turns that bring the two ends together, and what the place says of the finder's reply. As upper
 -- ends are in order, one comparison decides a half; a record of the level that holds the remainder is the only one. Assumes nothing.
-use mathlib.Core.Path.{_≡_, refl, sym, ap, _∙_, subst}
+use mathlib.Core.Path.{_≡_, refl, sym, _∙_, subst}
 use mathlib.Core.Logic.{_⊎_, inl, inr, ⊎-elim}
 use mathlib.Core.List.{List}
 use mathlib.Core.Bool.{Bool, true, false}
@@ -11,10 +11,10 @@ use lib.ListN.{length, getD}
 use lib.Dec.{ltb}
 use borrow.Author.Tests.{ltb-true, ltb-false, lt-ltb, le-ltb}
 use Rattle.word.specs.Record.{Record}
-use Rattle.table.specs.declared.Found.{Found}
 use Rattle.table.specs.declared.Found.the-variants.{At, Nothing}
-use Rattle.table.specs.Find.{holds, findIn}
-use Rattle.table.specs.Order.{key, Before, Proper, Sorted, noRecord, Placed}
+use Rattle.table.specs.Find.{fieldsHold, holds, findIn}
+use Rattle.table.specs.Order.{used, key, Before, Sorted, noRecord, Placed}
+use Rattle.table.proofs.Flat.{used-at}
 use Rattle.table.proofs.Order.{sorted-at, proper-at, Standing}
 use Rattle.table.proofs.Says.{fields-hold, NoneBefore, find-none, find-first}
 
@@ -122,3 +122,12 @@ module _ (xs : List Record) (s : Sorted xs) (wanted r p : ℕ) (pl : Placed xs w
 
       none : NoneBefore xs (length xs) wanted r
       none i l = decide i l (ltb i p) refl
+
+-- A test on the words of record m is the test on the record.
+module _ (t : List ℕ) (count : ℕ) (room : count * 4 ≤ length t) (m : ℕ) (h : m < count) (level r : ℕ) (b v : Bool) (value : b ≡ v) where
+  pub words-below : b ≡ ltb (key (getD t (m * 4) 0) (getD t (m * 4 + 2) 0)) (key level r) → ltb (upperKey (used t count) m) (key level r) ≡ v
+  words-below e = rw (used-at t count room m h) (sym e ∙ value)
+
+  pub words-hold : b ≡ fieldsHold (getD t (m * 4) 0) (getD t (m * 4 + 1) 0) (getD t (m * 4 + 2) 0) level r
+      → holds (getD (used t count) m noRecord) level r ≡ v
+  words-hold e = rw (used-at t count room m h) (sym e ∙ value)

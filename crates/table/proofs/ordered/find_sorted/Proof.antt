@@ -2,12 +2,8 @@
 -- it does. Assumes nothing.
 use borrow.Author.Needs.{needs}
 use native.Mathlib.Omega.{arith}
-use mathlib.Core.Path.{_≡_, sym, _∙_}
-use Prim.Native.Nat.{_≤_}
-use lib.ListN.{length}
-use Rattle.table.specs.Order.{used}
-use Rattle.table.proofs.Flat.{used-length, used-at}
-use Rattle.table.proofs.Search.{place-hit, place-miss}
+use Rattle.table.proofs.Flat.{used-length}
+use Rattle.table.proofs.Search.{place-hit, place-miss, words-hold}
 use Rattle.table.proofs.ordered.find_sorted.Statement.{statement}
 use Rattle.table.proofs.ordered.find_sorted.Tie as tie
 
@@ -19,7 +15,7 @@ returns c =
     let a = c .before .before .before in
     let pl = c .before .place in
     let n = used-length (a .args .table .now) (a .args .count) (a .pre .0) in
-    place-miss (used (a .args .table .now) (a .args .count)) (a .pre .1) (a .args .level) (a .args .r .0) (pl .result) (pl .ensures) (λ l. absurd (omega arith))
+    place-miss _ (a .pre .1) _ _ (pl .result) (pl .ensures) (λ l. absurd (omega arith))
 
 mul-b : tie.Need-mul-b
 mul-b c = search needs
@@ -54,21 +50,17 @@ holds-requires c κs = search needs
 returns-2 : tie.Need-returns-2
 returns-2 c =
     let a = c .before .before .before .before .before .before .before .before in
-    let t = a .args .table .now in
-    let count = a .args .count in
     let pl = c .before .before .before .before .before .before .place in
-    let same = used-at t count (a .pre .0) (pl .result) (omega arith) in
-    let n = used-length t count (a .pre .0) in
-    place-hit (used t count) (a .pre .1) (a .args .level) (a .args .r .0) (pl .result) (pl .ensures) (omega arith) (rw same (sym (c .before .holds .ensures) ∙ c .if2 .taken))
+    let n = used-length (a .args .table .now) (a .args .count) (a .pre .0) in
+    let test = words-hold _ _ (a .pre .0) (pl .result) (omega arith) _ _ _ _ (c .if2 .taken) (c .before .holds .ensures) in
+    place-hit _ (a .pre .1) _ _ (pl .result) (pl .ensures) (omega arith) test
 
 returns-3 : tie.Need-returns-3
 returns-3 c =
     let a = c .before .before .before .before .before .before .before .before in
-    let t = a .args .table .now in
-    let count = a .args .count in
     let pl = c .before .before .before .before .before .before .place in
-    let same = used-at t count (a .pre .0) (pl .result) (omega arith) in
-    place-miss (used t count) (a .pre .1) (a .args .level) (a .args .r .0) (pl .result) (pl .ensures) (λ l. rw same (sym (c .before .holds .ensures) ∙ c .if2 .left))
+    let test = words-hold _ _ (a .pre .0) (pl .result) (omega arith) _ _ _ _ (c .if2 .left) (c .before .holds .ensures) in
+    place-miss _ (a .pre .1) _ _ (pl .result) (pl .ensures) (λ l. test)
 
 pub find-sorted-spec : {M : Type 1} → statement M
 find-sorted-spec =

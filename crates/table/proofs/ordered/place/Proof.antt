@@ -1,12 +1,12 @@
 -- `table::ordered::place` meets its contract. The loop's invariant: the records before lo lie before the remainder and those from hi on do not. The
 -- measure is the number of records between. Assumes nothing.
 use borrow.Author.Needs.{needs}
-use Prim.Native.Nat.{ℕ, _+_, _-_, _*_, _/_, _≤_, _<_}
+use Prim.Native.Nat.{ℕ, _+_, _-_, _/_, _≤_, _<_}
 use native.Mathlib.Omega.{arith}
-use mathlib.Core.Path.{_≡_, sym, _∙_}
+use mathlib.Core.Path.{sym}
 use Rattle.table.specs.Order.{used}
-use Rattle.table.proofs.Flat.{used-length, used-at}
-use Rattle.table.proofs.Search.{Bracket, bracket-start, bracket-up, bracket-down, bracket-met}
+use Rattle.table.proofs.Flat.{used-length}
+use Rattle.table.proofs.Search.{Bracket, bracket-start, bracket-up, bracket-down, bracket-met, words-below}
 use Rattle.table.proofs.ordered.place.Statement.{statement}
 use Rattle.table.proofs.ordered.place.Tie as tie
 
@@ -53,33 +53,27 @@ loop-less : tie.Need-loop-less Inv-loop μ-loop
 loop-less c = omega arith
 
 loop-again : tie.Need-loop-again Inv-loop μ-loop
-loop-again c = let a = c .before .before .before .before .before .before .before in
+loop-again c =
+    let a = c .before .before .before .before .before .before .before in
     let l = c .before .before .before .before .before .loop in
     let m : ℕ = l .lo + (l .hi - l .lo) / 2 in
-    let t = a .args .table .now in
-    let lm : l .lo ≤ m = omega arith in
-    let mh : m < l .hi = omega arith in
-    let e = c .before .below .ensures in (
-      bracket-up (used t (a .args .count)) (a .pre .1) (a .args .level) (a .args .r .0) (l .lo) (l .hi) m (l .inv .0) lm mh
-          (rw (used-at t (a .args .count) (a .pre .0) m (omega arith)) (sym e ∙ c .if1 .taken)),
-      search needs,
-    )
+    let low : l .lo ≤ m = omega arith in
+    let high : m < l .hi = omega arith in
+    let test = words-below _ _ (a .pre .0) m (omega arith) _ _ _ _ (c .if1 .taken) (c .before .below .ensures) in
+    (bracket-up _ (a .pre .1) _ _ _ _ m (l .inv .0) low high test, search needs)
 
 loop-less-2 : tie.Need-loop-less-2 Inv-loop μ-loop
 loop-less-2 c = omega arith
 
 loop-again-2 : tie.Need-loop-again-2 Inv-loop μ-loop
-loop-again-2 c = let a = c .before .before .before .before .before .before .before in
+loop-again-2 c =
+    let a = c .before .before .before .before .before .before .before in
     let l = c .before .before .before .before .before .loop in
     let m : ℕ = l .lo + (l .hi - l .lo) / 2 in
-    let t = a .args .table .now in
-    let lm : l .lo ≤ m = omega arith in
-    let mh : m < l .hi = omega arith in
-    let e = c .before .below .ensures in (
-      bracket-down (used t (a .args .count)) (a .pre .1) (a .args .level) (a .args .r .0) (l .lo) (l .hi) m (l .inv .0) lm mh
-          (rw (used-at t (a .args .count) (a .pre .0) m (omega arith)) (sym e ∙ c .if1 .left)),
-      search needs,
-    )
+    let low : l .lo ≤ m = omega arith in
+    let high : m < l .hi = omega arith in
+    let test = words-below _ _ (a .pre .0) m (omega arith) _ _ _ _ (c .if1 .left) (c .before .below .ensures) in
+    (bracket-down _ (a .pre .1) _ _ _ _ m (l .inv .0) low high test, search needs)
 
 returns : tie.Need-returns Inv-loop μ-loop
 returns c = bracket-met _ _ _ _ _ (c .before .loop .inv .0) (c .loop-test .left)
