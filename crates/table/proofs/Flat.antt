@@ -1,11 +1,13 @@
 -- RECORDS OF A FLAT TABLE: how many there are, and that record k is words 4k to 4k + 3. By induction, four words at a time. Assumes nothing.
-use mathlib.Core.Path.{_≡_, refl, ap}
+use mathlib.Core.Path.{_≡_, refl, ap, _∙_}
 use mathlib.Core.List.{List, [], _∷_}
-use Prim.Native.Nat.{ℕ, zero, suc, _+_, _*_, _/_, _<_}
+use Prim.Native.Nat.{ℕ, zero, suc, _+_, _*_, _/_, _≤_, _<_}
 use native.Mathlib.Nat.{not-suc-le-zero, le-of-suc-le-suc}
 use native.Mathlib.Omega.{arith}
 use lib.ListN.{length, getD}
+use lib.Seq.{getD-take, length-take-le}
 use Rattle.word.specs.Record.{Record, records}
+use Rattle.table.specs.Order.{used, noRecord}
 
 -- The record that four words make.
 abbrev pub recordOf : ℕ → ℕ → ℕ → ℕ → Record
@@ -42,3 +44,11 @@ record-at (a ∷ b ∷ c ∷ d ∷ t) (suc k) x h =
     let e2 = shifted a b c d t (suc k * 4 + 2) (k * 4 + 2) (omega arith) in
     let e3 = shifted a b c d t (suc k * 4 + 3) (k * 4 + 3) (omega arith) in
     cc
+
+-- The first `count` records, where the table has room for them.
+module _ (t : List ℕ) (count : ℕ) (room : count * 4 ≤ length t) where
+  pub used-length : length (used t count) ≡ count
+  used-length = length-take-le count (records t) (omega (arith, records-length t))
+
+  pub used-at : (k : ℕ) → k < count → getD (used t count) k noRecord ≡ recordAt t k
+  used-at k h = getD-take count (records t) k noRecord h ∙ record-at t k noRecord (omega (arith, records-length t))

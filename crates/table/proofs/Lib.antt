@@ -1,4 +1,7 @@
--- Laws that the proofs of the finder use and other crates' proofs cite.
+-- Laws that the proofs of the finder, the search and the insertion use and other crates' proofs cite.
 pub mod Flat
+pub mod Order
 pub mod Laws
 pub mod Says
+pub mod Search
+pub mod Gap

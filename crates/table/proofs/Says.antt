@@ -1,6 +1,6 @@
 -- WHAT THE FINDER'S REPLY SAYS: a number is that of a record that holds the remainder, and no record before it does; "nothing" is the reply just where
 -- no record does. By induction on the records. Assumes nothing.
-use mathlib.Core.Path.{_≡_, refl, sym, ap}
+use mathlib.Core.Path.{_≡_, refl, sym, ap, _∙_}
 use mathlib.Core.Logic.{_↔_}
 use mathlib.Core.List.{List, [], _∷_}
 use mathlib.Core.Bool.{Bool, true, false, _&&_, true≢false}
@@ -13,7 +13,9 @@ use borrow.Author.Tests.{eqb-true, leb-true, eq-eqb, le-leb}
 use Rattle.word.specs.Record.{Record}
 use Rattle.table.specs.declared.Found.{Found}
 use Rattle.table.specs.declared.Found.the-variants.{At, Nothing}
-use Rattle.table.specs.Find.{fieldsHold, holds, foundIf, orElse, findFrom}
+use Rattle.table.specs.Find.{fieldsHold, holds, foundIf, orElse, findFrom, findIn}
+use Rattle.table.specs.Order.{Among, noRecord}
+use Rattle.table.proofs.Order.{at-among}
 
 -- THE TEST of a record's fields is true just where the level is the wanted one and the label holds r.
 pub fields-hold : (level lower upper wanted r : ℕ)
@@ -34,13 +36,9 @@ fields-hold level lower upper wanted r = (
     go true false c p q s e = absurd (true≢false (sym e))
     go false b c p q s e = absurd (true≢false (sym e))
 
--- A stand-in for a record past the last.
-abbrev pub none : Record
-none = record { level = 0; lower = 0; upper = 0; first = 0 }
-
 -- No record before record i holds the remainder.
 abbrev pub NoneBefore : List Record → ℕ → ℕ → ℕ → Type 0
-NoneBefore xs i wanted r = (j : ℕ) → j < i → holds (getD xs j none) wanted r ≡ false
+NoneBefore xs i wanted r = (j : ℕ) → j < i → holds (getD xs j noRecord) wanted r ≡ false
 
 pub find-none : (xs : List Record) (k wanted r : ℕ) → NoneBefore xs (length xs) wanted r → findFrom k xs wanted r ≡ Nothing
 unfolding findFrom
@@ -48,7 +46,7 @@ find-none [] k wanted r h = refl
 find-none (x ∷ xs) k wanted r h =
     rw (h 0 (suc-le-suc zero-le)) (find-none xs (suc k) wanted r (λ j l. h (suc j) (suc-le-suc l)))
 
-pub find-first : (xs : List Record) (k i wanted r : ℕ) → i < length xs → NoneBefore xs i wanted r → holds (getD xs i none) wanted r ≡ true
+pub find-first : (xs : List Record) (k i wanted r : ℕ) → i < length xs → NoneBefore xs i wanted r → holds (getD xs i noRecord) wanted r ≡ true
     → findFrom k xs wanted r ≡ At (record { 0 = k + i })
 unfolding findFrom
 find-first [] k i wanted r l h e = absurd (not-suc-le-zero l)
@@ -67,7 +65,7 @@ pub record First (xs : List Record) (k wanted r n : ℕ) : Type 0 where
   pub i : ℕ
   pub number : n ≡ k + i
   pub within : i < length xs
-  pub held : holds (getD xs i none) wanted r ≡ true
+  pub held : holds (getD xs i noRecord) wanted r ≡ true
   pub before : NoneBefore xs i wanted r
 
 abbrev number-of : Found → ℕ
@@ -103,3 +101,22 @@ nothing-says (x ∷ xs) k wanted r e = go (holds x wanted r) refl (λ q. nothing
         → orElse (foundIf b k) (findFrom (suc k) xs wanted r) ≡ Nothing → NoneBefore (x ∷ xs) (suc (length xs)) wanted r
     go true h again q = let z : _≡_ {A = ℕ} 0 1 = cc in absurd (omega arith)
     go false h again q = one-more x xs (length xs) wanted r h (again q)
+
+-- THE REPLY At k: record k is of the level and holds r.
+pub find-says : (xs : List Record) (wanted r k : ℕ) → findIn xs wanted r ≡ At (record { 0 = k })
+    → (k < length xs) × (getD xs k noRecord .level ≡ wanted) × (getD xs k noRecord .lower ≤ r) × (r ≤ getD xs k noRecord .upper)
+find-says xs wanted r k e =
+    let f = found-says xs 0 wanted r k e in
+    let same : f .i ≡ k = omega (arith, f .number) in
+    let x : Record = getD xs k noRecord in
+    let h : holds x wanted r ≡ true = rw same at (f .held) in
+    let t = fields-hold (x .level) (x .lower) (x .upper) wanted r .0 h in
+    (rw same at (f .within), t .0, t .1, t .2)
+
+-- THE REPLY Nothing: no record among them is of the level and holds r.
+pub nothing-holds : (xs : List Record) (wanted r : ℕ) → findIn xs wanted r ≡ Nothing
+    → (x : Record) → Among x xs → x .level ≡ wanted → x .lower ≤ r → r ≤ x .upper → ⊥
+nothing-holds xs wanted r e x m l a b =
+    let s = at-among x xs m in
+    let out : holds x wanted r ≡ false = rw (s .here) at (nothing-says xs 0 wanted r e (s .k) (s .within)) in
+    true≢false (sym (fields-hold (x .level) (x .lower) (x .upper) wanted r .1 (l, a, b)) ∙ out)

@@ -1,4 +1,6 @@
 // The finder over a flat table of node records.
+pub mod ordered; // records in order: the search by halves and the insertion
+
 use word::NodeNumber;
 use word::RECORD;
 use word::Remainder;
