@@ -1,9 +1,11 @@
 -- THE FLAT FORM of a table: the words of its records, and its edge list. Assumes nothing.
 use mathlib.Core.List.{List, [], _∷_, _++_, map}
+use mathlib.Core.Bool.{cond}
 use Prim.Native.Nat.{ℕ, suc, _+_, _-_}
-use lib.ListN.{length}
-use Rattle.word.specs.Edge.{edgeWord}
-use Rattle.word.specs.Record.{Record, laid}
+use lib.Dec.{eqb}
+use lib.ListN.{length, take, drop}
+use Rattle.word.specs.Edge.{Edge, F, T, to, edgeWord}
+use Rattle.word.specs.Record.{Record, laid, records}
 use Rattle.diagram.specs.Level.{Level}
 use Rattle.diagram.specs.Table.{Node}
 use Rattle.diagram.specs.Claim.{levelAt}
@@ -34,3 +36,19 @@ edgeWords (x ∷ xs) = map edgeWord (x .children) ++ edgeWords xs
 unfoldable pub edgeCount : List Level → List Node → ℕ
 edgeCount ls [] = 0
 edgeCount ls (x ∷ xs) = suc (levelAt ls (x .level - 1) .dom) + edgeCount ls xs
+
+-- THE DRAWING that lent memory holds: each record's level and label, and of the edge list its children from its first place on, one for each value of its level.
+abbrev pub edgeIn : ℕ → Edge
+edgeIn w = cond (eqb w (edgeWord F)) F (cond (eqb w (edgeWord T)) T (to w))
+
+abbrev pub nodeIn : List Level → List ℕ → Record → Node
+nodeIn ls es x =
+    record {
+      level = x .level;
+      lab = record { lower = x .lower; upper = x .upper };
+      children = map edgeIn (take (suc (levelAt ls (x .level - 1) .dom)) (drop (x .first) es));
+    }
+
+-- The nodes of its first `count` records.
+abbrev pub nodesIn : List Level → List ℕ → List ℕ → ℕ → List Node
+nodesIn ls t es count = map (nodeIn ls es) (take count (records t))

@@ -1,0 +1,276 @@
+-- The steps of building, one law for each place of the code. Assumes nothing.
+use mathlib.Core.Path.{_≡_, refl, sym, ap, ap₂, subst, subst₂, _∙_}
+use mathlib.Core.Logic.{_↔_, _⊎_, inl, inr, ⊎-elim}
+use mathlib.Core.List.{List, []}
+use mathlib.Core.Bool.{Bool, true, false}
+use Prim.Native.Nat.{ℕ, zero, suc, _+_, _-_, _*_, _/_, _≤_, _<_, min, max}
+use native.Mathlib.Omega.{arith}
+use lib.Dec.{ltb, leb}
+use lib.IntN.{pos}
+use lib.ListN.{length, getD, drop}
+use borrow.Author.Tests.{ltb-true, ltb-false, leb-true, leb-false, lt-ltb, le-ltb, le-leb, lt-leb}
+use Rattle.word.specs.declared.Remainder.{Remainder}
+use Rattle.word.specs.Record.{Record}
+use Rattle.table.specs.declared.Found.{Found}
+use Rattle.table.specs.declared.Found.the-variants.{At, Nothing}
+use Rattle.table.specs.Find.{findIn}
+use Rattle.table.specs.Order.{used, noRecord, Placed, insertAt}
+use Rattle.table.proofs.Flat.{recordAt, used-length, used-at}
+use Rattle.table.proofs.Order.{among-at}
+use Rattle.table.proofs.Says.{find-says, nothing-holds}
+use Rattle.constraint.specs.Lent.{levelsOf, Lent}
+use Rattle.constraint.proofs.Slices.{levels-count, dom-at, off-at, term-at, rest-at, rest-small, product-at, level-left}
+use Rattle.diagram.specs.Level.{Level, AllAscend, R}
+use Rattle.diagram.specs.Label.{Label, label}
+use Rattle.diagram.specs.Claim.{levelAt}
+use Rattle.diagram.proofs.Standing.{ascend-drop}
+use Rattle.diagram.proofs.Labels.{label-bounds}
+use Rattle.diagram.proofs.Reach.{Part, from-top}
+use Rattle.builder.specs.declared.Ends.{Ends}
+use Rattle.builder.specs.declared.Branch.{Branch}
+use Rattle.builder.specs.declared.Branch.the-variants.{False, True, On}
+use Rattle.builder.specs.declared.Built.{Built}
+use Rattle.builder.specs.declared.Built.the-variants.{Done, Full}
+use Rattle.builder.specs.Branch.{ends, labelOf, pick, branchOf, cutOf, overlapOf}
+use Rattle.builder.specs.Store.{Store, Noded, Rowed, NeedsMore}
+use Rattle.builder.specs.Built.{good, Ready, Good, Flat, Put, NoRoom, PutOk, NodeDone, NodeOk, CutBy, RowDone, RowOk}
+use Rattle.builder.proofs.Cuts.{Cut, cut-F, cut-T, cut-on, cut-end, cut-step, row-label}
+use Rattle.builder.proofs.Stores.{held, noded-found, rowed-end, rowed-skip, rowed-node, Free, free-kept, noded-new, needs-more, child-needs, later-needs}
+
+-- ---- The branch of a child
+
+-- the cases of a child: what each says of the remainder
+pub data Case (a t r j : ℕ) : Branch → Type 0 where
+  below : r < a * j → Case a t r j (False (a * j - 1))
+  above : a * j ≤ r → t ≤ r - a * j → Case a t r j (True (t + a * j))
+  on : a * j ≤ r → r - a * j < t → Case a t r j (On (record { 0 = r - a * j }) (a * j))
+
+pub cases : (a t r j : ℕ) → Case a t r j (branchOf a t r j)
+cases a t r j = go (ltb r (a * j)) refl (leb t (r - a * j)) refl
+  where
+    go : (p : Bool) → ltb r (a * j) ≡ p → (q : Bool) → leb t (r - a * j) ≡ q
+        → Case a t r j (pick p (False (a * j - 1)) (pick q (True (t + a * j)) (On (record { 0 = r - a * j }) (a * j))))
+    go true e q f = below (ltb-true r (a * j) e)
+    go false e true f = above (ltb-false r (a * j) e) (leb-true t (r - a * j) f)
+    go false e false f = on (ltb-false r (a * j) e) (leb-false t (r - a * j) f)
+
+pub record OnCase (a t r j : ℕ) (c : Remainder) (m : ℕ) : Type 0 where
+  pub by : m ≡ a * j
+  pub is : c .0 ≡ r - a * j
+  pub reach : a * j ≤ r
+  pub below : c .0 < t
+
+pub on-case : (a t r j : ℕ) (c : Remainder) (m : ℕ) → On c m ≡ branchOf a t r j → OnCase a t r j c m
+on-case a t r j c m e = go (branchOf a t r j) e (cases a t r j)
+  where
+    go : (b : Branch) → On c m ≡ b → Case a t r j b → OnCase a t r j c m
+    go (False x) e k = let z : _≡_ {A = ℕ} 0 1 = cc in absurd (omega arith)
+    go (True x) e k = let z : _≡_ {A = ℕ} 0 1 = cc in absurd (omega arith)
+    go (On d n) e (on p q) =
+        let f : c .0 ≡ r - a * j = ap rest e in
+        record { by = ap move e; is = f; reach = p; below = omega arith }
+      where
+        rest : Branch → ℕ
+        rest (False x) = 0
+        rest (True x) = 0
+        rest (On x y) = x .0
+
+        move : Branch → ℕ
+        move (False x) = 0
+        move (True x) = 0
+        move (On x y) = y
+
+module _ (cs ds rs : List ℕ) where
+  abbrev ls : List Level
+  ls = levelsOf cs ds
+
+  -- R at a level, and what it bounds
+  top-is : (i : ℕ) → Lent cs ds rs → i ≤ length cs → getD rs i 0 ≡ R (drop i ls)
+  top-is i L h = rest-at cs ds rs L i h
+
+  pub small : Lent cs ds rs → (i : ℕ) → R (drop i ls) < 4294967296
+  small L i = omega (arith, rest-small cs ds rs L i)
+
+  level-in : (i : ℕ) → Ready cs ds rs i → i < length ls
+  level-in i rd = omega (arith, rd .level, levels-count cs ds rs (rd .lent))
+
+  -- a coefficient times a number of its domain, and R below, are at most R
+  pub product : (i j : ℕ) → Ready cs ds rs i → j ≤ getD ds i 0 → getD cs i 0 * j + getD rs (i + 1) 0 ≤ getD rs i 0
+  product i j rd h = let e : i + 1 ≡ suc i = omega arith in rw e (product-at cs ds rs (rd .lent) i j (rd .level) h)
+
+  -- an undecided child has a level
+  pub ready-next : (i c : ℕ) → Ready cs ds rs i → c < getD rs (i + 1) 0 → Ready cs ds rs (i + 1)
+  ready-next i c rd h = record { lent = rd .lent; level = level-left cs ds rs (rd .lent) (i + 1) c (omega (arith, rd .level)) h }
+
+  pub end-small : (i : ℕ) → Ready cs ds rs i → getD ds i 0 ≤ 15
+  end-small i rd = term-at cs ds rs (rd .lent) i (rd .level) .1
+
+  -- ---- A found node
+
+  pub found-ok : (t : List ℕ) (count i r k : ℕ) → Good cs ds rs t count → findIn (used t count) (i + 1) r ≡ At (record { 0 = k })
+      → (k * 4 + 3 < length t) × ((e : Ends) → e ≡ ends (getD t (k * 4 + 1) 0) (getD t (k * 4 + 2) 0) → NodeDone cs ds rs i r t count t count e)
+  found-ok t count i r k G f =
+      let h = find-says (used t count) (i + 1) r k f in
+      let n = used-length t count (G .room) in
+      let w : k < count = omega (arith, h .0) in
+      let x : Record = getD (used t count) k noRecord in
+      let at : x ≡ recordAt t k = used-at t count (G .room) k w in
+      let lev : x .level ≡ suc i = omega (arith, h .1) in
+      let m = among-at (used t count) k (h .0) in
+      let d = held ls (good cs ds) x i r (G .store .right x m) lev (h .2) (h .3) in
+      let here : label (drop i ls) r ≡ labelOf (ends (getD t (k * 4 + 1) 0) (getD t (k * 4 + 2) 0)) = d .2 ∙ ap (λ (y : Record). labelOf (ends (y .lower) (y .upper))) at in (
+        omega (arith, G .room),
+        λ e is. record {
+          lab = ap labelOf is ∙ sym here;
+          flat = record { room = G .room; long = refl };
+          noded = noded-found ls (good cs ds) i r (used t count) x (G .store) m lev (h .2) (h .3);
+        },
+      )
+
+  -- ---- A row
+
+  pub row-end-ok : (i r j : ℕ) (e : Ends) (t : List ℕ) (count : ℕ) → Ready cs ds rs i → Good cs ds rs t count → getD ds i 0 < j → RowDone cs ds rs i r j e t count t count e
+  row-end-ok i r j e t count rd G h =
+      let k : levelAt ls i .dom < j = omega (arith, dom-at cs ds rs (rd .lent) i (rd .level)) in
+      record {
+        cut = cut-end ls (good cs ds) i r j e k;
+        flat = record { room = G .room; long = refl };
+        rowed = rowed-end ls (good cs ds) i r j (used t count) (G .store) k;
+      }
+
+  module _ (i r j : ℕ) (rd : Ready cs ds rs i) (h : j ≤ getD ds i 0) where
+    dom-in : j ≤ levelAt ls i .dom
+    dom-in = omega (arith, dom-at cs ds rs (rd .lent) i (rd .level))
+
+    off-is : levelAt ls i .off j ≡ getD cs i 0 * j
+    off-is = off-at cs ds rs (rd .lent) i j (rd .level)
+
+    rest-is : getD rs (i + 1) 0 ≡ R (drop (suc i) ls)
+    rest-is = let e : i + 1 ≡ suc i = omega arith in rw e (top-is (suc i) (rd .lent) (rd .level))
+
+    -- a child that is F or T cuts the ends, and builds nothing
+    pub skip-cut : (e : Ends) (b : Branch) → b ≡ branchOf (getD cs i 0) (getD rs (i + 1) 0) r j → ((c : Remainder) (m : ℕ) → b ≡ On c m → ⊥)
+        → Cut (drop (suc i) ls) (ascend-drop ls (suc i) (good cs ds)) r (levelAt ls i .off j) e (cutOf e b) × ((i′ q : ℕ) → Part ls (good cs ds) i r j i′ q → ⊥)
+    skip-cut e b is none = go b none (subst (Case (getD cs i 0) (getD rs (i + 1) 0) r j) (sym is) (cases (getD cs i 0) (getD rs (i + 1) 0) r j))
+      where
+        G : AllAscend (drop (suc i) ls)
+        G = ascend-drop ls (suc i) (good cs ds)
+
+        go : (b : Branch) → ((c : Remainder) (m : ℕ) → b ≡ On c m → ⊥) → Case (getD cs i 0) (getD rs (i + 1) 0) r j b
+            → Cut (drop (suc i) ls) G r (levelAt ls i .off j) e (cutOf e b) × ((i′ q : ℕ) → Part ls (good cs ds) i r j i′ q → ⊥)
+        go (False x) n (below p) =
+            (subst (λ (m : ℕ). Cut (drop (suc i) ls) G r m e (cutOf e (False (getD cs i 0 * j - 1)))) (sym off-is) (cut-F (drop (suc i) ls) G r (getD cs i 0 * j) p e), λ i′ q w. omega (arith, w .0, off-is))
+        go (True x) n (above p q) =
+            let t : R (drop (suc i) ls) ≤ r - getD cs i 0 * j = omega (arith, rest-is) in (
+              subst₂ (λ (m s : ℕ). Cut (drop (suc i) ls) G r m e (cutOf e (True (s + getD cs i 0 * j)))) (sym off-is) (sym rest-is) (cut-T (drop (suc i) ls) G r (getD cs i 0 * j) p t e),
+              λ i′ q w. from-top ls (good cs ds) (suc i) (r - levelAt ls i .off j) i′ q (omega (arith, off-is)) (w .1),
+            )
+        go (On c m) n k = absurd (n c m refl)
+
+    pub row-skip-ok : (e : Ends) (b : Branch) (t : List ℕ) (count : ℕ) (t″ : List ℕ) (x : Built) → b ≡ branchOf (getD cs i 0) (getD rs (i + 1) 0) r j
+        → ((c : Remainder) (m : ℕ) → b ≡ On c m → ⊥) → (y : Ends) → y ≡ cutOf e b → RowOk cs ds rs i r (j + 1) y t count t″ x → RowOk cs ds rs i r j e t count t″ x
+    row-skip-ok e b t count t″ (Done n z) is none y cut ok =
+        let s = skip-cut e b is none in
+        record {
+          cut = cut-step ls (good cs ds) i r j e y z dom-in (subst (Cut (drop (suc i) ls) (ascend-drop ls (suc i) (good cs ds)) r (levelAt ls i .off j) e) (sym cut) (s .0)) (ok .cut);
+          flat = ok .flat;
+          rowed = rowed-skip ls (good cs ds) i r j (used t count) (used t″ n) (s .1) (ok .rowed);
+        }
+    row-skip-ok e b t count t″ Full is none y cut ok = ok
+
+    -- a child that is a node
+    module _ (c : Remainder) (m : ℕ) (k : OnCase (getD cs i 0) (getD rs (i + 1) 0) r j c m) where
+      taken : levelAt ls i .off j ≤ r
+      taken = omega (arith, off-is, k .reach)
+
+      left-is : c .0 ≡ r - levelAt ls i .off j
+      left-is = k .is ∙ ap (λ (o : ℕ). r - o) (sym off-is)
+
+      left-undecided : r - levelAt ls i .off j < R (drop (suc i) ls)
+      left-undecided = omega (arith, left-is, k .below, rest-is)
+
+      -- what was said of level i + 1 and the child's remainder
+      below-label : (s : Ends) → labelOf s ≡ label (drop (i + 1) ls) (c .0) → labelOf s ≡ label (drop (suc i) ls) (r - levelAt ls i .off j)
+      below-label s e = let o : i + 1 ≡ suc i = omega arith in e ∙ ap₂ (λ (n x : ℕ). label (drop n ls) x) o left-is
+
+      pub moved-fits : (s : Ends) → labelOf s ≡ label (drop (i + 1) ls) (c .0) → (s .lower + m < 4294967296) × (s .upper + m < 4294967296)
+      moved-fits s e =
+          let l = below-label s e in
+          let b = label-bounds (drop (suc i) ls) (ascend-drop ls (suc i) (good cs ds)) (r - levelAt ls i .off j) left-undecided in
+          let low : s .lower ≡ label (drop (suc i) ls) (r - levelAt ls i .off j) .lower = ap (λ (x : Label). x .lower) l in
+          let high : s .upper ≡ label (drop (suc i) ls) (r - levelAt ls i .off j) .upper = ap (λ (x : Label). x .upper) l in
+          let p = product i j rd h in
+          let q = top-is i (rd .lent) (omega (arith, rd .level)) in
+          let z = small (rd .lent) i in
+          (omega (arith, b .0, b .1, b .2, k .by, rest-is), omega (arith, b .2, k .by, rest-is))
+
+      -- no room for a child
+      pub row-full-ok : (t : List ℕ) (count : ℕ) → NodeOk cs ds rs (i + 1) (c .0) t count t Full → NeedsMore ls (good cs ds) (length t / 4) i r (used t count)
+      row-full-ok t count ok =
+          let o : i + 1 ≡ suc i = omega arith in
+          child-needs ls (good cs ds) (length t / 4) i r j (used t count) (used t count) (level-in i rd) dom-in taken
+          (subst₂ (λ (n x : ℕ). NeedsMore ls (good cs ds) (length t / 4) n x (used t count)) o left-is ok)
+
+      pub row-node-ok : (e s : Ends) (t : List ℕ) (count : ℕ) (t′ : List ℕ) (n : ℕ) (t″ : List ℕ) (x : Built) → NodeDone cs ds rs (i + 1) (c .0) t count t′ n s
+          → (y : Ends) → y ≡ overlapOf e s m → RowOk cs ds rs i r (j + 1) y t′ n t″ x → RowOk cs ds rs i r j e t count t″ x
+      row-node-ok e s t count t′ n t″ (Done n′ z) d y is ok =
+          let o : i + 1 ≡ suc i = omega arith in
+          let N : Noded ls (good cs ds) (suc i) (r - levelAt ls i .off j) (used t count) (used t′ n) = subst₂ (λ (w v : ℕ). Noded ls (good cs ds) w v (used t count) (used t′ n)) o left-is (d .noded) in
+          let mv : m ≡ levelAt ls i .off j = k .by ∙ sym off-is in
+          let C : Cut (drop (suc i) ls) (ascend-drop ls (suc i) (good cs ds)) r (levelAt ls i .off j) e y =
+          subst (Cut (drop (suc i) ls) (ascend-drop ls (suc i) (good cs ds)) r (levelAt ls i .off j) e) (sym (is ∙ ap (overlapOf e s) mv))
+          (cut-on (drop (suc i) ls) (ascend-drop ls (suc i) (good cs ds)) r (levelAt ls i .off j) taken left-undecided e s (below-label s (d .lab))) in
+          record {
+            cut = cut-step ls (good cs ds) i r j e y z dom-in C (ok .cut);
+            flat = record { room = ok .flat .room; long = ok .flat .long ∙ d .flat .long };
+            rowed = rowed-node ls (good cs ds) i r j (used t count) (used t′ n) (used t″ n′) dom-in taken N (ok .rowed);
+          }
+      row-node-ok e s t count t′ n t″ Full d y is ok =
+          let o : i + 1 ≡ suc i = omega arith in
+          let N : Noded ls (good cs ds) (suc i) (r - levelAt ls i .off j) (used t count) (used t′ n) = subst₂ (λ (w v : ℕ). Noded ls (good cs ds) w v (used t count) (used t′ n)) o left-is (d .noded) in
+          later-needs ls (good cs ds) (length t / 4) i r j (used t count) (used t′ n) (level-in i rd) dom-in taken N
+          (subst (λ (w : ℕ). NeedsMore ls (good cs ds) (w / 4) i r (used t′ n)) (d .flat .long) ok)
+
+  -- ---- A new node
+
+  pub node-put-ok : (i r : ℕ) (t : List ℕ) (count : ℕ) (t′ : List ℕ) (n : ℕ) (e : Ends) (t″ : List ℕ) (b : Built) → Ready cs ds rs i → Good cs ds rs t count → r < getD rs i 0
+      → findIn (used t count) (i + 1) r ≡ Nothing → RowDone cs ds rs i r 0 (ends 0 (getD rs i 0 - 1)) t count t′ n e → PutOk t′ n (i + 1) r e t″ b → NodeOk cs ds rs i r t count t″ b
+  node-put-ok i r t count t′ n e t″ b rd G u none d put = by b put
+    where
+      top : getD rs i 0 ≡ R (drop i ls)
+      top = top-is i (rd .lent) (let l = rd .level in omega arith)
+
+      undecided : r < R (drop i ls)
+      undecided = omega (arith, top)
+
+      tiny : R (drop i ls) < 4294967296
+      tiny = small (rd .lent) i
+
+      lab-is : labelOf e ≡ label (drop i ls) r
+      lab-is = row-label ls (good cs ds) i r (level-in i rd) undecided e (subst (λ (x : ℕ). CutBy cs ds rs i r 0 (ends 0 (x - 1)) e) top (d .cut))
+
+      one : i + 1 ≡ suc i
+      one = omega arith
+
+      free : Free ls (good cs ds) i r undecided tiny (used t count)
+      free x m l a b = nothing-holds (used t count) (i + 1) r none x m (l ∙ sym one) a b
+
+      free-now : Free ls (good cs ds) i r undecided tiny (used t′ n)
+      free-now = free-kept ls (good cs ds) i r undecided tiny 0 (used t count) (used t′ n) (G .store) free (d .rowed)
+
+      placed : (p : ℕ) → Placed (used t′ n) (i + 1) r p → Placed (used t′ n) (suc i) r p
+      placed p P = subst (λ (l : ℕ). Placed (used t′ n) l r p) one P
+
+      by : (b : Built) → PutOk t′ n (i + 1) r e t″ b → NodeOk cs ds rs i r t count t″ b
+      by (Done n″ e″) put =
+          record {
+            lab = ap labelOf (put .same) ∙ lab-is;
+            flat = record { room = put .flat .room; long = put .flat .long ∙ d .flat .long };
+            noded =
+                subst (Noded ls (good cs ds) i r (used t count))
+                (ap₂ (λ (l : ℕ) (y : Label). insertAt (put .p) (record { level = l; lower = y .lower; upper = y .upper; first = 0 }) (used t′ n)) (sym one) (sym lab-is) ∙ sym (put .records))
+                (noded-new ls (good cs ds) i r undecided tiny (used t′ n) (d .rowed .store) free-now (put .p) (placed (put .p) (put .placed)) (used t count) (G .store) (d .rowed));
+          }
+      by Full nr =
+          needs-more ls (good cs ds) (length t / 4) i r (used t count) (used t′ n) undecided tiny (d .rowed .store) free-now (nr .p) (placed (nr .p) (nr .placed)) (d .rowed)
+          (subst (λ (w : ℕ). w / 4 ≤ length (used t′ n)) (d .flat .long) (omega (arith, nr .tight, used-length t′ n (d .flat .room))))

@@ -1,0 +1,212 @@
+// The diagram of a constraint, built into a lent node table: node building and row building call each other.
+// Level i, from 0, has the coefficient coefs[i] and the domain end ends[i]; rests[i] is the greatest sum from that level on.
+use table::Found;
+use word::NodeNumber;
+use word::RECORD;
+use word::Remainder;
+ghost use mathlib.Core.Path.{_≡_};
+ghost use Prim.Native.Nat.{ℕ, _+_, _*_, _/_, _<_, _≤_, min, max};
+ghost use lib.ListN.{length, getD};
+ghost use Rattle.table.specs.Order.{used, Sorted};
+ghost use Rattle.constraint.specs.Lent.{Lent};
+ghost use Rattle.builder.specs.Branch.{ends, branchOf, cutOf, overlapOf};
+ghost use Rattle.builder.specs.Built.{Ready, Good, PutOk, NodeOk, RowOk, RootOk};
+
+// The two ends of a label.
+pub struct Ends {
+    pub lower: u32,
+    pub upper: u32,
+}
+
+// Where a child leads: to F, whose label moved up ends at a number; to T, whose label moved up starts at one; or on, and its label is moved up by one.
+pub enum Branch {
+    False(u32),
+    True(u32),
+    On(Remainder, u32),
+}
+
+// The number of records in use and a label, or no room for a further node.
+pub enum Built {
+    Done(usize, Ends),
+    Full,
+}
+
+// The root: T; a node, with the number of records; or no room for the diagram.
+pub enum Root {
+    True,
+    Node(usize),
+    Full,
+}
+
+fn larger(a: u32, b: u32) -> u32
+    ensures { λ r. ⌜ r ≡ max a b ⌝ }
+{
+    if a < b { b } else { a }
+}
+
+fn smaller(a: u32, b: u32) -> u32
+    ensures { λ r. ⌜ r ≡ min a b ⌝ }
+{
+    if a < b { a } else { b }
+}
+
+// Child j of the remainder at level i.
+fn child<'a>(coefs: &'a [u32], rests: &'a [u32], i: usize, r: Remainder, j: u32) -> Branch
+    requires { ⌜ (i < length (now coefs)) × (i + 1 < length (now rests)) × (getD (now coefs) i 0 * j + getD (now rests) (i + 1) 0 < 4294967296) ⌝ }
+    ensures { λ k. ⌜ k ≡ branchOf (getD (now (coefs .entry)) i 0) (getD (now (rests .entry)) (i + 1) 0) (r .0) j ⌝ }
+{
+    let m = coefs[i] * j;
+    let x = r.0;
+    if x < m {
+        return Branch::False(m - 1);
+    }
+    let t = rests[i + 1];
+    if t <= x - m {
+        return Branch::True(t + m);
+    }
+    Branch::On(Remainder(x - m), m)
+}
+
+// The ends, cut by a child that is F or T.
+fn cut(e: Ends, b: Branch) -> Ends
+    ensures { λ x. ⌜ x ≡ cutOf e b ⌝ }
+{
+    match b {
+        Branch::False(top) => Ends {
+            lower: e.lower,
+            upper: smaller(e.upper, top),
+        },
+        Branch::True(bottom) => Ends {
+            lower: larger(e.lower, bottom),
+            upper: e.upper,
+        },
+        Branch::On(_, _) => e,
+    }
+}
+
+// The overlap of the ends with a child's label moved up by m.
+fn overlap(e: Ends, s: Ends, m: u32) -> Ends
+    requires { ⌜ (s .lower + m < 4294967296) × (s .upper + m < 4294967296) ⌝ }
+    ensures { λ x. ⌜ x ≡ overlapOf e s m ⌝ }
+{
+    Ends {
+        lower: larger(e.lower, s.lower + m),
+        upper: smaller(e.upper, s.upper + m),
+    }
+}
+
+// The label of a record.
+fn label_at(table: &[u32], k: NodeNumber) -> Ends
+    requires { ⌜ k .0 * 4 + 3 < length (now table) ⌝ }
+    ensures { λ x. ⌜ x ≡ ends (getD (now (table .entry)) (k .0 * 4 + 1) 0) (getD (now (table .entry)) (k .0 * 4 + 2) 0) ⌝ }
+{
+    let b = k.0 * RECORD;
+    Ends {
+        lower: table[b + 1],
+        upper: table[b + 2],
+    }
+}
+
+// Puts a record for the label into the table, at the remainder's place.
+fn put(table: &mut [u32], count: usize, level: u32, r: Remainder, e: Ends) -> Built
+    requires { ⌜ (count * 4 ≤ length (now table)) × Sorted (used (now table) count) ⌝ }
+    ensures { λ b. ⌜ PutOk (now (table .entry)) count level (r .0) e (now (table .exit)) b ⌝ }
+{
+    let p = table::ordered::place(table, count, level, r);
+    if table.len() / RECORD <= count {
+        return Built::Full;
+    }
+    table::ordered::insert(table, count, p, level, e.lower, e.upper);
+    Built::Done(count + 1, e)
+}
+
+// The node of an undecided remainder at level i, found or built.
+fn build_node<'a>(
+    coefs: &'a [u32],
+    ends: &'a [u32],
+    rests: &'a [u32],
+    table: &mut [u32],
+    count: usize,
+    i: usize,
+    r: Remainder,
+) -> Built
+    requires { ⌜ Ready (now coefs) (now ends) (now rests) i ⌝ }
+    requires { ⌜ Good (now coefs) (now ends) (now rests) (now table) count ⌝ }
+    requires { ⌜ r .0 < getD (now rests) i 0 ⌝ }
+    ensures { λ b. ⌜ NodeOk (now (coefs .entry)) (now (ends .entry)) (now (rests .entry)) i (r .0) (now (table .entry)) count (now (table .exit)) b ⌝ }
+{
+    let level = i as u32 + 1;
+    let Found::At(k) = table::ordered::find_sorted(table, count, level, r) else {
+        let whole = Ends {
+            lower: 0,
+            upper: rests[i] - 1,
+        };
+        let row = build_row(coefs, ends, rests, table, count, i, r, 0, whole);
+        let Built::Done(n, e) = row else {
+            return Built::Full;
+        };
+        return put(table, n, level, r, e);
+    };
+    Built::Done(count, label_at(table, k))
+}
+
+// The ends, overlapped with the labels of the remainder's children from j on, whose nodes are found or built.
+fn build_row<'a>(
+    coefs: &'a [u32],
+    ends: &'a [u32],
+    rests: &'a [u32],
+    table: &mut [u32],
+    count: usize,
+    i: usize,
+    r: Remainder,
+    j: u32,
+    e: Ends,
+) -> Built
+    requires { ⌜ Ready (now coefs) (now ends) (now rests) i ⌝ }
+    requires { ⌜ Good (now coefs) (now ends) (now rests) (now table) count ⌝ }
+    requires { ⌜ (r .0 < getD (now rests) i 0) × (j ≤ getD (now ends) i 0 + 1) ⌝ }
+    ensures { λ b. ⌜ RowOk (now (coefs .entry)) (now (ends .entry)) (now (rests .entry)) i (r .0) j e (now (table .entry)) count (now (table .exit)) b ⌝ }
+{
+    if ends[i] < j {
+        return Built::Done(count, e);
+    }
+    let branch = child(coefs, rests, i, r, j);
+    let Branch::On(c, m) = branch else {
+        return build_row(
+            coefs,
+            ends,
+            rests,
+            table,
+            count,
+            i,
+            r,
+            j + 1,
+            cut(e, branch),
+        );
+    };
+    let Built::Done(n, s) = build_node(coefs, ends, rests, table, count, i + 1, c) else {
+        return Built::Full;
+    };
+    build_row(coefs, ends, rests, table, n, i, r, j + 1, overlap(e, s, m))
+}
+
+// The diagram of the bound, built into the table: its records in order, the fourth word of each 0.
+pub fn build<'a>(
+    coefs: &'a [u32],
+    ends: &'a [u32],
+    rests: &'a [u32],
+    table: &mut [u32],
+    bound: Remainder,
+) -> Root
+    requires { ⌜ Lent (now coefs) (now ends) (now rests) ⌝ }
+    ensures { λ b. ⌜ RootOk (now (coefs .entry)) (now (ends .entry)) (bound .0) (now (table .entry)) (now (table .exit)) b ⌝ }
+{
+    let x = bound.0;
+    if rests[0] <= x {
+        return Root::True;
+    }
+    let Built::Done(n, _) = build_node(coefs, ends, rests, table, 0, 0, bound) else {
+        return Root::Full;
+    };
+    Root::Node(n)
+}
