@@ -3,6 +3,7 @@ ghost use mathlib.Core.Path.{_≡_};
 ghost use mathlib.Core.Bool.{true, false};
 ghost use Prim.Native.Nat.{ℕ, _+_, _≤_};
 ghost use Rattle.word.specs.Word.{kind, payload, domainEnd, coefficient, boolean, negated, lastBoolean, literalWord, lastCount, endWord};
+ghost use Rattle.word.specs.Padded.{cleared};
 ghost use Rattle.word.specs.Edge.{Edge, to, edgeWord, edgeBoolean, edgeOf};
 
 // A Boolean variable, from 1.
@@ -119,5 +120,16 @@ pub fn child_variable(orders: u32, c: Child) -> Variable
         Child::False => Variable(orders + 2),
         Child::True => Variable(orders + 1),
         Child::Node(k) => node_variable(orders, k),
+    }
+}
+
+// Zeros in lent memory, from a place on.
+pub fn clear(list: &mut [u32], from: usize)
+    ensures { λ _. ⌜ now (list .exit) ≡ cleared from (now (list .entry)) ⌝ }
+{
+    let mut i = from;
+    'fill: while i < list.len() {
+        list[i] = 0;
+        i += 1;
     }
 }

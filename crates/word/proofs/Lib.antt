@@ -1,0 +1,2 @@
+-- Laws of lent memory that other crates' proofs cite.
+pub mod Cleared
