@@ -11,7 +11,7 @@ use lib.Dec.{leb, eqb}
 use lib.ListN.{length, getD, drop, length-map, List·getD-append}
 use Rattle.word.specs.Padded.{padded}
 use Rattle.word.specs.Word.{kind, coefficient, domainEnd}
-use Rattle.refusal.specs.Table.{andThen, unless}
+use Rattle.refusal.specs.Table.{numberOf, andThen, unless}
 use Rattle.refusal.specs.declared.Refusal.{Refusal}
 use Rattle.refusal.specs.declared.Checked.{Checked}
 use Rattle.refusal.specs.declared.Checked.the-variants.{Passed, Refused}
@@ -172,3 +172,34 @@ length-stated (w ∷ ws) = rw length-map (omega arith)
 -- Words that pass are 2 to 65.
 pub checked-length : (ws : List ℕ) → checked ws ≡ Passed → (2 ≤ length ws) × (length ws ≤ 65)
 checked-length ws e = let w = checked-within ws e in let n = length-stated ws in (omega (arith, w .some), omega (arith, w .few))
+
+-- THE CHECK REFUSES with numbers 1 to 5.
+abbrev pub Early : Checked → Type 0
+Early Passed = Unit {0}
+Early (Refused x) = leb (numberOf x) 5 ≡ true
+
+early-then : (a b : Checked) → Early a → Early b → Early (andThen a b)
+early-then Passed b p q = q
+early-then (Refused x) b p q = p
+
+early-unless : (b : Bool) (x : Refusal) → leb (numberOf x) 5 ≡ true → Early (unless b x)
+early-unless true x e = tt
+early-unless false x e = e
+
+early-each : (check : ℕ → ℕ → Checked) → ((at w : ℕ) → Early (check at w)) → (at : ℕ) (ws : List ℕ) → Early (eachFrom check at ws)
+unfolding eachFrom
+early-each check e at [] = tt
+early-each check e at (w ∷ ws) = early-then (check at w) (eachFrom check (suc at) ws) (e at w) (early-each check e (suc at) ws)
+
+pub early : (ws : List ℕ) → Early (checked ws)
+unfolding checked
+early [] = refl
+early (w ∷ ws) =
+    early-then (unless (eqb (kind w) 0) (WrongKind 0)) _ (early-unless (eqb (kind w) 0) (WrongKind 0) refl)
+    (early-then (eachFrom kindChecked 1 ws) _ (early-each kindChecked (λ at v. early-unless (eqb (kind v) 1) (WrongKind at) refl) 1 ws)
+    (early-then (countChecked (length ws)) _ (early-unless (upTo 64 (length ws)) (TermCount (suc (length ws))) refl) (early-each termChecked term 1 ws)))
+  where
+    term : (at v : ℕ) → Early (termChecked at v)
+    term at v =
+        early-then (unless (upTo 15 (domainEnd v)) (DomainEnd at)) (unless (leb 1 (coefficient v)) (ZeroCoefficient at))
+        (early-unless (upTo 15 (domainEnd v)) (DomainEnd at) refl) (early-unless (leb 1 (coefficient v)) (ZeroCoefficient at) refl)

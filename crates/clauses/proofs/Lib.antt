@@ -1,0 +1,4 @@
+pub mod Writing
+pub mod Turns
+pub mod Reading
+pub mod Laws
