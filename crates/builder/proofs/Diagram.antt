@@ -4,14 +4,14 @@ use mathlib.Core.Path.{_≡_, refl, sym, ap, ap₂, subst, subst₂, _∙_}
 use mathlib.Core.Logic.{_↔_, _⊎_, inl, inr, ⊎-elim}
 use mathlib.Core.List.{List, [], _∷_, map}
 use mathlib.Core.Bool.{Bool, true, false}
-use Prim.Native.Nat.{ℕ, zero, suc, _+_, _*_, _-_, _≤_, _<_, zero-le, suc-le-suc}
-use native.Mathlib.Nat.{le-refl, le-trans, not-suc-le-zero, le-of-suc-le-suc, ne-of-lt}
+use Prim.Native.Nat.{ℕ, suc, _≤_, _<_}
+use native.Mathlib.Nat.{le-refl, le-trans, ne-of-lt}
 use native.Mathlib.Omega.{arith}
 use lib.IntN.{ℤ, pos, negsuc}
 use lib.ListN.{length, getD, take, drop, length-map}
 use Rattle.word.specs.Record.{Record}
-use Rattle.table.specs.Order.{key, Before, Proper, Among, All, Sorted, noRecord}
-use Rattle.table.proofs.Order.{among-at, at-among}
+use Rattle.table.specs.Order.{key, Before, Proper, Among, Sorted, noRecord}
+use Rattle.table.proofs.Order.{among-at, at-among, sorted-of}
 use Rattle.diagram.specs.Level.{Level, AllAscend, R, Choice, total, Same}
 use Rattle.diagram.specs.Label.{Label, label, Holds, Undecided}
 use Rattle.diagram.specs.Table.{Node, noNode, table, root}
@@ -27,23 +27,6 @@ use Rattle.diagram.proofs.Order.{strict-ext}
 use Rattle.diagram.proofs.Reach.{From, from-bound}
 use Rattle.builder.specs.Store.{Has, Right, Store, Noded, NeedsMore}
 use Rattle.builder.proofs.Stores.{recordFor, lt-or-ge, right-for, Earlier, earlier-asym, sorted-strict, has-within}
-
--- ---- Records in order, by place
-
-all-of : (P : Record → Type 0) (xs : List Record) → ((k : ℕ) → k < length xs → P (getD xs k noRecord)) → All P xs
-unfolding All
-all-of P [] h = tt
-all-of P (x ∷ xs) h = (h 0 (suc-le-suc zero-le), all-of P xs (λ k l. h (suc k) (suc-le-suc l)))
-
-pub sorted-of : (xs : List Record) → ((p : ℕ) → p < length xs → Proper (getD xs p noRecord))
-    → ((p q : ℕ) → p < q → q < length xs → Before (getD xs p noRecord) (getD xs q noRecord)) → Sorted xs
-unfolding Sorted
-sorted-of [] p b = tt
-sorted-of (x ∷ xs) p b = (
-  p 0 (suc-le-suc zero-le),
-  all-of (Before x) xs (λ k l. b 0 (suc k) (suc-le-suc zero-le) (suc-le-suc l)),
-  sorted-of xs (λ k l. p (suc k) (suc-le-suc l)) (λ k m l h. b (suc k) (suc m) (suc-le-suc l) (suc-le-suc h)),
-)
 
 module _ (ls : List Level) (g : AllAscend ls) (a : ℤ) where
   abbrev ns : List Node
@@ -72,8 +55,9 @@ module _ (ls : List Level) (g : AllAscend ls) (a : ℤ) where
             (λ z. let f = label-full (drop i ls) (ascend-drop ls i g) (u .0) (u .2) z in (λ p. f .1 (full z .0 p), λ p. full z .1 (f .0 p)));
       }
 
-  bounds : (n i : ℕ) → OfLevel ns i n → (nodeAt ns n .lab .lower ≤ nodeAt ns n .lab .upper) × (nodeAt ns n .lab .upper < R (drop i ls))
-  bounds n i o =
+  -- the ends of a node's label
+  pub label-ends : (n i : ℕ) → OfLevel ns i n → (nodeAt ns n .lab .lower ≤ nodeAt ns n .lab .upper) × (nodeAt ns n .lab .upper < R (drop i ls))
+  label-ends n i o =
       let k = known n i o in
       let b = label-bounds (drop i ls) (ascend-drop ls i g) (k .r) (k .undecided) in
       subst (λ (x : Label). (x .lower ≤ x .upper) × (x .upper < R (drop i ls))) (sym (k .lab)) (le-trans (b .0) (b .1), b .2)
@@ -85,7 +69,7 @@ module _ (ls : List Level) (g : AllAscend ls) (a : ℤ) where
       let y = W .levelled n k in
       let om : OfLevel ns (y .0) m = (omega arith, e ∙ y .2 .1) in
       ⊎-elim (λ p. p)
-      (λ p. absurd (ne-of-lt h (W .apart m n (y .0) om (y .2) (pos (nodeAt ns n .lab .lower)) (omega arith, p) (le-refl _, bounds n (y .0) (y .2) .0))))
+      (λ p. absurd (ne-of-lt h (W .apart m n (y .0) om (y .2) (pos (nodeAt ns n .lab .lower)) (omega arith, p) (le-refl _, label-ends n (y .0) (y .2) .0))))
       (lt-or-ge (nodeAt ns m .lab .upper) (nodeAt ns n .lab .lower))
 
   -- ---- The records of the table
@@ -104,13 +88,13 @@ module _ (ls : List Level) (g : AllAscend ls) (a : ℤ) where
     table-sorted = sorted-of tableRecords (λ p h. proper p (omega (arith, length-records))) (λ p q h k. before p q h (omega (arith, length-records)))
       where
         proper : (p : ℕ) → p < length ns → Proper (getD tableRecords p noRecord)
-        proper p h = let x = W .levelled p h in let b = bounds p (x .0) (x .2) in rw (at p h) (b .0, omega (arith, b .1, small (x .0)))
+        proper p h = let x = W .levelled p h in let b = label-ends p (x .0) (x .2) in rw (at p h) (b .0, omega (arith, b .1, small (x .0)))
 
         before : (p q : ℕ) → p < q → q < length ns → Before (getD tableRecords p noRecord) (getD tableRecords q noRecord)
         before p q h k =
             let u : p < length ns = omega arith in
             let x = W .levelled p u in
-            let b = bounds p (x .0) (x .2) in
+            let b = label-ends p (x .0) (x .2) in
             let s = small (x .0) in
             rw (at p u, at q k)
             (⊎-elim (λ l. omega (arith, b .1)) (λ l. omega (arith, l .0, parted p q h k (l .0) (l .1))) (W .numbered p q h k))

@@ -26,7 +26,8 @@ use Rattle.table.specs.Order.{used}
 use Rattle.table.proofs.Flat.{recordAt, records-length as table-length}
 use Rattle.clauses.specs.Written.{Room, Wrote}
 use Rattle.clauses.specs.Drawing.{Drawing, Listed}
-use Rattle.clauses.specs.Held.{ended, edgeFrom, endAt, childWords, nodeFrom, nodesHeld, Sound, Held}
+use Rattle.diagram.specs.Flat.{edgeIn}
+use Rattle.clauses.specs.Held.{ended, endAt, childWords, nodeFrom, nodesHeld, Sound, Held}
 use Rattle.clauses.proofs.Writing.{Parts}
 use Rattle.clauses.proofs.Turns.{used-at}
 
@@ -54,12 +55,12 @@ node-clauses ls D k (x ∷ xs) = rw (before-ended ls (x .level - 1), node-clause
 
 -- ---- Edges
 
-edge-back : (D : ℕ) (e : Edge) → edgeBoolean D e ≤ lastBoolean → edgeFrom (edgeWord e) ≡ e
+edge-back : (D : ℕ) (e : Edge) → edgeBoolean D e ≤ lastBoolean → edgeIn (edgeWord e) ≡ e
 edge-back D F h = refl
 edge-back D T h = refl
 edge-back D (to k) h = rw (ne-eqb k 0xC0000000 (λ e. omega arith), ne-eqb k 0xC0000001 (λ e. omega arith))
 
-edges-back : (D : ℕ) (es : List Edge) → ((j : ℕ) → j < length es → edgeBoolean D (getD es j F) ≤ lastBoolean) → map edgeFrom (map edgeWord es) ≡ es
+edges-back : (D : ℕ) (es : List Edge) → ((j : ℕ) → j < length es → edgeBoolean D (getD es j F) ≤ lastBoolean) → map edgeIn (map edgeWord es) ≡ es
 edges-back D [] f = refl
 edges-back D (e ∷ es) f = ap₂ (λ (x : Edge) (xs : List Edge). x ∷ xs) (edge-back D e (f 0 (omega arith))) (edges-back D es (λ j h. f (suc j) (omega arith)))
 
@@ -104,8 +105,8 @@ nodes-back ds es D first (x ∷ xs) filled fits e =
         ap (λ (n : ℕ). take n (drop first es)) (sym many)
         ∙ run-first (map edgeWord (x .children)) (edgeWords xs) (drop first es) (length (x .children)) row e
 
-    children : map edgeFrom (childWords ds es (recordOf first x)) ≡ x .children
-    children = ap (map edgeFrom) words ∙ edges-back D (x .children) (λ j h. fits 0 j (omega arith) h)
+    children : map edgeIn (childWords ds es (recordOf first x)) ≡ x .children
+    children = ap (map edgeIn) words ∙ edges-back D (x .children) (λ j h. fits 0 j (omega arith) h)
 
     node : nodeFrom ds es (recordOf first x) ≡ x
     node = λ i. record { level = x .level; lab = x .lab; children = children i }
@@ -176,12 +177,12 @@ module _ {ls : List Level} {ns : List Node} {ds : List ℕ} {D : ℕ} {t : List 
       size : length (nodeAt ns k .children) ≡ suc (endAt ds (recordAt t k .level))
       size = rows k within ∙ ap (λ (i : ℕ). suc (endAt ds i)) (sym level)
 
-      numbered : (j : ℕ) → j < length (childWords ds es (recordAt t k)) → edgeBoolean D (edgeFrom (getD (childWords ds es (recordAt t k)) j 0)) ≤ lastBoolean
+      numbered : (j : ℕ) → j < length (childWords ds es (recordAt t k)) → edgeBoolean D (edgeIn (getD (childWords ds es (recordAt t k)) j 0)) ≤ lastBoolean
       numbered j m =
-          let e : map edgeFrom (childWords ds es (recordAt t k)) ≡ nodeAt ns k .children = ap (λ (x : Node). x .children) (node-is k h) in
-          let n : length (childWords ds es (recordAt t k)) ≡ length (nodeAt ns k .children) = sym (length-map (childWords ds es (recordAt t k)) edgeFrom) ∙ ap length e in
-          let c : edgeFrom (getD (childWords ds es (recordAt t k)) j 0) ≡ getD (nodeAt ns k .children) j F =
-          sym (map-at edgeFrom (childWords ds es (recordAt t k)) j F 0 m) ∙ ap (λ (xs : List Edge). getD xs j F) e in
+          let e : map edgeIn (childWords ds es (recordAt t k)) ≡ nodeAt ns k .children = ap (λ (x : Node). x .children) (node-is k h) in
+          let n : length (childWords ds es (recordAt t k)) ≡ length (nodeAt ns k .children) = sym (length-map (childWords ds es (recordAt t k)) edgeIn) ∙ ap length e in
+          let c : edgeIn (getD (childWords ds es (recordAt t k)) j 0) ≡ getD (nodeAt ns k .children) j F =
+          sym (map-at edgeIn (childWords ds es (recordAt t k)) j F 0 m) ∙ ap (λ (xs : List Edge). getD xs j F) e in
           subst (λ (x : Edge). edgeBoolean D x ≤ lastBoolean) (sym c) (fits k j within (omega arith))
 
   -- LENT MEMORY HOLDS what the writing asks for

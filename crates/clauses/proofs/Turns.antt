@@ -18,7 +18,8 @@ use Rattle.encoding.specs.Boolean.{orders, ordersBefore}
 use Rattle.encoding.specs.Pattern.{orderOf, ordersOf, unitsOf, childrenOf, nodeOf, nodesOf}
 use Rattle.table.specs.Order.{used}
 use Rattle.table.proofs.Flat.{records-length, record-at, recordAt}
-use Rattle.clauses.specs.Held.{ended, edgeFrom, endAt, childWords, nodeFrom, Numbered, Held}
+use Rattle.diagram.specs.Flat.{edgeIn}
+use Rattle.clauses.specs.Held.{ended, endAt, childWords, nodeFrom, Numbered, Held}
 use Rattle.clauses.proofs.Writing.{Parts}
 
 -- ---- The order clauses
@@ -86,19 +87,19 @@ before-fits ds i h = omega (arith, before-turn ds i h, before-inside ds (suc i))
 
 -- of the children from one on; n is the node's Boolean, and b order Booleans come before the level's
 abbrev pub childrenLeft : ℕ → ℕ → ℕ → List ℕ → ℕ → List ℕ
-childrenLeft D n b ws j = wordsOf (childrenOf D n (b + j) (map edgeFrom (drop j ws)))
+childrenLeft D n b ws j = wordsOf (childrenOf D n (b + j) (map edgeIn (drop j ws)))
 
 -- the first child's clause comes first; w is the literal that says that the node is false
 pub node-turn : (D k b : ℕ) (ws : List ℕ) {w c : ℕ} → edgeBoolean D (to k) ≤ lastBoolean → w ≡ literalWord false (edgeBoolean D (to k)) → 1 ≤ length ws
-    → c ≡ literalWord true (edgeBoolean D (edgeFrom (getD ws 0 0)))
-    → Parts (wordsOf (nodeOf D (edgeBoolean D (to k)) (suc b) (map edgeFrom ws))) (w ∷ c ∷ endWord 2 ∷ []) (childrenLeft D (boolean w) b ws 1)
+    → c ≡ literalWord true (edgeBoolean D (edgeIn (getD ws 0 0)))
+    → Parts (wordsOf (nodeOf D (edgeBoolean D (to k)) (suc b) (map edgeIn ws))) (w ∷ c ∷ endWord 2 ∷ []) (childrenLeft D (boolean w) b ws 1)
 node-turn D k b [] fits p h q = absurd (not-suc-le-zero h)
 node-turn D k b (u ∷ ws) {w} {c} fits p h q =
     let e : boolean w ≡ edgeBoolean D (to k) = omega arith in
     record { joined = rw (e, p, q, add-one) }
 
 pub children-turn : (D k b : ℕ) (ws : List ℕ) (j : ℕ) {w o c : ℕ} → edgeBoolean D (to k) ≤ lastBoolean → w ≡ literalWord false (edgeBoolean D (to k)) → j < length ws
-    → o ≡ literalWord true (b + j) → c ≡ literalWord true (edgeBoolean D (edgeFrom (getD ws j 0)))
+    → o ≡ literalWord true (b + j) → c ≡ literalWord true (edgeBoolean D (edgeIn (getD ws j 0)))
     → Parts (childrenLeft D (boolean w) b ws j) (w ∷ o ∷ c ∷ endWord 3 ∷ []) (childrenLeft D (boolean w) b ws (j + 1))
 children-turn D k b ws j {w} {o} {c} fits p h q r =
     let e : boolean w ≡ edgeBoolean D (to k) = omega arith in
@@ -106,7 +107,7 @@ children-turn D k b ws j {w} {o} {c} fits p h q r =
     record { joined = rw (drop-cons ws j 0, e, p, q, r, ← f, add-one) }
 
 pub children-none : (D n b : ℕ) (ws : List ℕ) (j : ℕ) → length ws ≤ j → childrenLeft D n b ws j ≡ []
-children-none D n b ws j h = ap (λ (l : List ℕ). wordsOf (childrenOf D n (b + j) (map edgeFrom l))) (drop-of-length-le ws h)
+children-none D n b ws j h = ap (λ (l : List ℕ). wordsOf (childrenOf D n (b + j) (map edgeIn l))) (drop-of-length-le ws h)
 
 -- ---- The clauses of the nodes
 
@@ -139,7 +140,7 @@ pub record Asked (D : ℕ) (ws : List ℕ) (k b : ℕ) : Type 0 where
 
 module _ {ds : List ℕ} {D : ℕ} {t : List ℕ} {count : ℕ} {es : List ℕ} (held : Held ds D t count es) where
   pub nodes-turn : (k : ℕ) {b : ℕ} → k < count → b ≡ ordersBefore (ended ds) (getD t (k * 4) 0 - 1)
-      → Parts (nodesLeft ds D t count es k) (wordsOf (nodeOf D (edgeBoolean D (to k)) (suc b) (map edgeFrom (part ds es (recordAt t k)))))
+      → Parts (nodesLeft ds D t count es k) (wordsOf (nodeOf D (edgeBoolean D (to k)) (suc b) (map edgeIn (part ds es (recordAt t k)))))
       (nodesLeft ds D t count es (k + 1))
   nodes-turn k {b} h e =
       let x : Record = recordAt [] 0 in
@@ -147,7 +148,7 @@ module _ {ds : List ℕ} {D : ℕ} {t : List ℕ} {count : ℕ} {es : List ℕ} 
       record {
         joined =
             rw (drop-cons (used t count) k x n, used-at t count (held .long) k x h, add-one k, e, part-is ds es (recordAt t k))
-            (words-append (nodeOf D (edgeBoolean D (to k)) (suc (ordersBefore (ended ds) (getD t (k * 4) 0 - 1))) (map edgeFrom (childWords ds es (recordAt t k))))
+            (words-append (nodeOf D (edgeBoolean D (to k)) (suc (ordersBefore (ended ds) (getD t (k * 4) 0 - 1))) (map edgeIn (childWords ds es (recordAt t k))))
             (nodesOf (ended ds) D (suc k) (map (nodeFrom ds es) (drop (suc k) (used t count)))));
       }
 

@@ -17,7 +17,8 @@ ghost use Rattle.encoding.specs.Boolean.{orders, ordersBefore};
 ghost use Rattle.encoding.specs.Pattern.{orderOf, ordersOf, unitsOf, nodeOf, nodesOf};
 ghost use Rattle.clauses.specs.Written.{Room, Wrote};
 ghost use Rattle.clauses.specs.Drawing.{Drawing, Drawn, Listed};
-ghost use Rattle.clauses.specs.Held.{ended, edgeFrom, nodesHeld, Numbered, Held};
+ghost use Rattle.diagram.specs.Flat.{edgeIn};
+ghost use Rattle.clauses.specs.Held.{ended, nodesHeld, Numbered, Held};
 
 // The literal that says that a Boolean is true, or that it is false.
 fn literal(says: bool, b: Variable) -> u32
@@ -120,7 +121,7 @@ fn write_units(orders: u32, root: Child, out: &mut [u32], start: usize) -> usize
 
 // The end of an edge, from its word.
 fn child_of(w: u32) -> Child
-    ensures { λ r. ⌜ edgeOf r ≡ edgeFrom w ⌝ }
+    ensures { λ r. ⌜ edgeOf r ≡ edgeIn w ⌝ }
 {
     if w == 0xC0000000 {
         return Child::False;
@@ -133,8 +134,8 @@ fn child_of(w: u32) -> Child
 
 // The literal that says that an edge's end is true, from the edge's word.
 fn child_literal(orders: u32, w: u32) -> u32
-    requires { ⌜ edgeBoolean orders (edgeFrom w) ≤ lastBoolean ⌝ }
-    ensures { λ r. ⌜ r ≡ literalWord true (edgeBoolean orders (edgeFrom w)) ⌝ }
+    requires { ⌜ edgeBoolean orders (edgeIn w) ≤ lastBoolean ⌝ }
+    ensures { λ r. ⌜ r ≡ literalWord true (edgeBoolean orders (edgeIn w)) ⌝ }
 {
     literal(true, word::child_variable(orders, child_of(w)))
 }
@@ -152,8 +153,8 @@ fn write_node(
     requires some { ⌜ 1 ≤ length (now edges) ⌝ }
     requires values { ⌜ earlier + length (now edges) ≤ lastBoolean ⌝ }
     requires known { ⌜ Numbered orders (now edges) ⌝ }
-    requires room { ⌜ Room (wordsOf (nodeOf orders (edgeBoolean orders (to (node .0))) (suc earlier) (map edgeFrom (now edges)))) start (now out) ⌝ }
-    ensures { λ r. ⌜ Wrote (wordsOf (nodeOf orders (edgeBoolean orders (to (node .0))) (suc earlier) (map edgeFrom (now (edges .entry))))) start (now (out .entry)) (now (out .exit)) r ⌝ }
+    requires room { ⌜ Room (wordsOf (nodeOf orders (edgeBoolean orders (to (node .0))) (suc earlier) (map edgeIn (now edges)))) start (now out) ⌝ }
+    ensures { λ r. ⌜ Wrote (wordsOf (nodeOf orders (edgeBoolean orders (to (node .0))) (suc earlier) (map edgeIn (now (edges .entry))))) start (now (out .entry)) (now (out .exit)) r ⌝ }
 {
     let n = literal(false, word::node_variable(orders, node));
     let mut at = put_two(out, start, n, child_literal(orders, edges[0]));

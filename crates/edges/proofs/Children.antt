@@ -33,7 +33,7 @@ use Rattle.constraint.proofs.Slices.{levels-good, dom-at, off-at, rest-at, rest
 use Rattle.edges.specs.Sum.{endOf, endSum, Countable}
 use Rattle.edges.specs.Row.{edgeFound, leadsTo, rowOf, rowAt, rowsOf, linkedFrom}
 use Rattle.edges.specs.Linked.{nodesOf, Finished, Linked}
-use Rattle.edges.proofs.Ordered.{label-ends, table-sorted}
+use Rattle.builder.proofs.Diagram.{label-ends, table-sorted}
 use Rattle.edges.proofs.Laws.{level-of, table-countable, edge-sum}
 
 -- the word of what is found fits
@@ -66,7 +66,7 @@ linked-are ds first [] e = refl
 linked-are ds first (n ∷ ns) e =
     rw (e 0 (omega arith)) (ap (λ (xs : List Record). recordOf first n ∷ xs) (linked-are ds (first + (endOf ds (recordOf 0 n) + 1)) ns (λ m h. e (suc m) (omega arith))))
 
-module _ (ls : List Level) (a : ℤ) (g : AllAscend ls) (small : R ls ≤ 4294967296) where
+module _ (ls : List Level) (a : ℤ) (g : AllAscend ls) (small : (i : ℕ) → R (drop i ls) < 4294967296) where
   -- an edge that leads where a remainder belongs is what the search gives
   leads-is : (i level top : ℕ) → level ≡ suc i → top ≡ R (drop i ls) → (z : ℤ) (e : Edge) → Leads ls (table ls a) i e z
       → leadsTo (map (recordOf 0) (table ls a)) level top z ≡ e
@@ -79,8 +79,8 @@ module _ (ls : List Level) (a : ℤ) (g : AllAscend ls) (small : R ls ≤ 429496
       let ns = table ls a in
       let at : Standing (recordOf 0 (nodeAt ns n)) (map (recordOf 0) ns) =
       record { k = n; within = omega (arith, length-map ns (recordOf 0), h .0 .0); here = map-at (recordOf 0) ns n noRecord noNode (h .0 .0) } in
-      rw (lt-leb top r (omega (arith, label-ends ls a g n i (h .0) .1, h .1 .1)))
-      (ap edgeFound (find-there (map (recordOf 0) ns) (table-sorted ls a g small 0) level r (recordOf 0 (nodeAt ns n)) at (h .0 .1 ∙ sym p) (h .1 .0) (h .1 .1)))
+      rw (lt-leb top r (omega (arith, label-ends ls g a n i (h .0) .1, h .1 .1)))
+      (ap edgeFound (find-there (map (recordOf 0) ns) (table-sorted ls g a small) level r (recordOf 0 (nodeAt ns n)) at (h .0 .1 ∙ sym p) (h .1 .0) (h .1 .1)))
 
 -- What linking needs of the records, the ends and the edges.
 pub record Ready (ds t : List ℕ) (count : ℕ) (es : List ℕ) : Type 0 where
@@ -89,8 +89,8 @@ pub record Ready (ds t : List ℕ) (count : ℕ) (es : List ℕ) : Type 0 where
   pub wide : count + endSum ds (used t count) ≤ length es
 
 module _ (cs ds rs : List ℕ) (L : Lent cs ds rs) where
-  small : R (levelsOf cs ds) ≤ 4294967296
-  small = omega (arith, rest-small cs ds rs L 0)
+  small : (i : ℕ) → R (drop i (levelsOf cs ds)) < 4294967296
+  small i = omega (arith, rest-small cs ds rs L i)
 
   module _ (a : ℕ) where
     W : Whole (levelsOf cs ds) (pos a) (nodesOf cs ds a) (root (levelsOf cs ds) (pos a)) (length (nodesOf cs ds a))
@@ -123,7 +123,7 @@ module _ (cs ds rs : List ℕ) (L : Lent cs ds rs) where
         leads j v =
             let x = nodeAt (nodesOf cs ds a) n in
             subst (λ (o : ℕ). Leads (levelsOf cs ds) (nodesOf cs ds a) (suc i) (getD (x .children) j F) (subℕ (x .lab .lower) o)) (off-at cs ds rs L i j h)
-            (W .parent n i o .1 j (omega (arith, dom-at cs ds rs L i h)) (pos (x .lab .lower)) (le-refl (x .lab .lower), label-ends (levelsOf cs ds) (pos a) (levels-good cs ds rs L) n i o .0))
+            (W .parent n i o .1 j (omega (arith, dom-at cs ds rs L i h)) (pos (x .lab .lower)) (le-refl (x .lab .lower), label-ends (levelsOf cs ds) (levels-good cs ds rs L) (pos a) n i o .0))
 
     module _ (t : List ℕ) (count : ℕ) (es : List ℕ) (done : Finished cs ds a t count es) where
       counted : count ≡ length (nodesOf cs ds a)
@@ -136,7 +136,7 @@ module _ (cs ds rs : List ℕ) (L : Lent cs ds rs) where
       pub ready : Ready ds t count es
       ready = record {
         countable = table-countable cs ds rs L 0 a t count (done .few) (done .room) (done .records);
-        sorted = rw (done .records) (table-sorted (levelsOf cs ds) (pos a) (levels-good cs ds rs L) small 0);
+        sorted = rw (done .records) (table-sorted (levelsOf cs ds) (levels-good cs ds rs L) (pos a) small);
         wide = omega (arith, sum-is, done .wide);
       }
 

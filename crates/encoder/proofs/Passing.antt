@@ -2,31 +2,28 @@
 use mathlib.Core.Path.{_≡_, refl, sym, ap, ap₂, subst, _∙_}
 use mathlib.Core.List.{List, [], _∷_, _++_, map}
 use Prim.Native.Nat.{ℕ, zero, suc, _+_, _*_, _-_, _≤_, _<_}
-use native.Mathlib.Nat.{le-refl}
 use native.Mathlib.Omega.{arith}
-use lib.IntN.{ℤ, pos}
-use lib.ListN.{length, getD, take}
-use Rattle.word.specs.Word.{lastBoolean}
-use Rattle.word.specs.Edge.{Edge, F, T, to, edgeBoolean}
+use lib.IntN.{pos}
+use lib.ListN.{length, take}
+use Rattle.word.specs.Edge.{Edge}
 use Rattle.word.specs.Padded.{padded, cleared}
 use Rattle.word.proofs.Cleared.{cleared-padded}
-use Rattle.table.specs.Order.{used}
-use Rattle.diagram.specs.Level.{Level, AllAscend, less}
+use Rattle.diagram.specs.Level.{Level}
 use Rattle.diagram.specs.Table.{Node, table, root}
-use Rattle.diagram.specs.Claim.{nodeAt, levelAt, OfLevel, Leads}
 use Rattle.diagram.specs.Right.{Right}
 use Rattle.diagram.specs.Flat.{recordsFrom, flat, tableWords, edgeWords, edgeCount}
 use Rattle.diagram.proofs.Drawn.{table-right}
 use Rattle.diagram.proofs.Written.{flat-length, records-length, edges-count}
 use Rattle.encoding.specs.Boolean.{orders}
 use Rattle.encoding.specs.Pattern.{clauseWords, wordCount}
-use Rattle.encoding.proofs.Fits.{own-level, right-filled, words-count}
+use Rattle.encoding.proofs.Fits.{right-filled, words-count}
 use Rattle.encoding.proofs.Demand.{orders-le}
 use Rattle.constraint.specs.Lent.{termsOf, levelsOf, Lent}
 use Rattle.constraint.proofs.Slices.{levels-good, levels-count}
 use Rattle.constraint.proofs.Laws.{length-levels}
 use Rattle.edges.specs.Linked.{Finished, Linked}
 use Rattle.clauses.specs.Drawing.{Drawing, Drawn, Listed}
+use Rattle.clauses.proofs.Laws.{right-drawing}
 use Rattle.encoder.specs.declared.Counts.{Counts}
 use Rattle.encoder.specs.Encoded.{levelsIn, nodesFor, rootFor}
 use Rattle.encoder.specs.Passes.{constraintOf, Tabled, Roomy, Filled}
@@ -60,12 +57,6 @@ module _ (cs ds rs : List ℕ) (L : Lent cs ds rs) (a : ℕ) where
   orders-small : orders ls ≤ 960
   orders-small = omega (arith, orders-le (termsOf cs ds) (L .limited), length-levels (termsOf cs ds), levels-count cs ds rs L, L .few)
 
-  -- no edge leads past the last node
-  last : (e : Edge) (i : ℕ) (z : ℤ) → Leads ls ns i e z → edgeBoolean (orders ls) e ≤ orders ls + 2 + length ns
-  last F i z l = omega arith
-  last T i z l = omega arith
-  last (to n) i z l = omega (arith, l .0 .0)
-
   module _ (D : ℕ) (t : List ℕ) (count : ℕ) (e : Edge) (B : Tabled (constraintOf cs ds a) D e t count) where
     -- to the edge list
     pub finished : (n : Counts) (es ws : List ℕ) → Roomy (constraintOf cs ds a) n es ws → Finished cs ds a t count es
@@ -74,26 +65,9 @@ module _ (cs ds rs : List ℕ) (L : Lent cs ds rs) (a : ℕ) where
     -- to the clauses
     pub drawing : (t′ es : List ℕ) → Linked cs ds a t′ count es → Drawing ls ns ds D t′ count es e
     drawing t′ es K =
-        record {
-          ends = doms cs ds (L .ends);
-          booleans = B .booleans;
-          numbers = omega (arith, B .booleans, B .few, orders-small);
-          records = K .records;
-          counted = B .counted;
-          edges = ap (λ (k : ℕ). take k es) edges-length ∙ K .edges;
-          levelled = λ n h. let x = R .levelled n h in (omega (arith, x .2 .1), omega (arith, x .1, x .2 .1));
-          filled = right-filled ls (pos a) ns top R;
-          child = child;
-          root = subst (λ (d : ℕ). edgeBoolean d e ≤ d + 2 + length ns) (sym (B .booleans)) (subst (λ (x : Edge). edgeBoolean (orders ls) x ≤ orders ls + 2 + length ns) (sym (B .root)) (last top 0 (pos a) (R .rooted)));
-        }
-      where
-        child : (n j : ℕ) → n < length ns → j < length (nodeAt ns n .children) → edgeBoolean D (getD (nodeAt ns n .children) j F) ≤ D + 2 + length ns
-        child n j h k =
-            let l = own-level ls (pos a) ns top R n h in
-            let z : ℤ = pos (nodeAt ns n .lab .lower) in
-            subst (λ (d : ℕ). edgeBoolean d (getD (nodeAt ns n .children) j F) ≤ d + 2 + length ns) (sym (B .booleans))
-            (last (getD (nodeAt ns n .children) j F) (suc (l .0)) (less z (levelAt ls (l .0) .off j))
-            (R .child n (l .0) (l .2) j (omega (arith, R .rows n (l .0) (l .2))) z (le-refl _, R .filled n h)))
+        subst (Drawing ls ns ds D t′ count es) (sym (B .root))
+        (right-drawing R (doms cs ds (L .ends)) (B .booleans) (omega (arith, B .booleans, B .few, orders-small)) (K .records) (B .counted)
+        (ap (λ (k : ℕ). take k es) edges-length ∙ K .edges))
 
     pub drawn : (n : Counts) (t′ es es′ ws : List ℕ) → Roomy (constraintOf cs ds a) n es ws → Linked cs ds a t′ count es′ → Drawn ds D t′ count es′ e (length ws)
     drawn n t′ es es′ ws M K = record { ls = ls; ns = ns; drawing = drawing t′ es′ K; fits = M .long }

@@ -15,7 +15,7 @@ all-at P [] a k h = absurd (not-suc-le-zero h)
 all-at P (x ∷ xs) a zero h = a .0
 all-at P (x ∷ xs) a (suc k) h = all-at P xs (a .1) k (le-of-suc-le-suc h)
 
-pub all-of : (P : Record → Type 0) (xs : List Record) → ((k : ℕ) → k < length xs → P (getD xs k noRecord)) → All P xs
+all-of : (P : Record → Type 0) (xs : List Record) → ((k : ℕ) → k < length xs → P (getD xs k noRecord)) → All P xs
 unfolding All
 all-of P [] h = tt
 all-of P (x ∷ xs) h = (h 0 (suc-le-suc zero-le), all-of P xs (λ k l. h (suc k) (suc-le-suc l)))
@@ -100,4 +100,17 @@ sorted-insert (suc p) y (x ∷ xs) s q h b a = (
   s .0,
   all-insert (Before x) p y xs (b 0 (suc-le-suc zero-le)) (s .1),
   sorted-insert p y xs (s .2) q (le-of-suc-le-suc h) (λ k l. b (suc k) (suc-le-suc l)) (λ k l m. a (suc k) (suc-le-suc l) (suc-le-suc m)),
+)
+
+-- What holds of each record, and of each two, makes an order.
+pub sorted-of : (xs : List Record)
+    → ((k : ℕ) → k < length xs → Proper (getD xs k noRecord))
+    → ((p q : ℕ) → p < q → q < length xs → Before (getD xs p noRecord) (getD xs q noRecord))
+    → Sorted xs
+unfolding Sorted
+sorted-of [] each two = tt
+sorted-of (x ∷ xs) each two = (
+  each 0 (suc-le-suc zero-le),
+  all-of (Before x) xs (λ k l. two 0 (suc k) (suc-le-suc zero-le) (suc-le-suc l)),
+  sorted-of xs (λ k l. each (suc k) (suc-le-suc l)) (λ p q l m. two (suc p) (suc q) (suc-le-suc l) (suc-le-suc m)),
 )

@@ -2,7 +2,7 @@
 ghost use mathlib.Core.Path.{_≡_};
 ghost use mathlib.Core.Bool.{true, false};
 ghost use Prim.Native.Nat.{ℕ, _+_, _≤_};
-ghost use Rattle.word.specs.Word.{kind, payload, domainEnd, coefficient, boolean, negated, lastBoolean, literalWord, lastCount, endWord};
+ghost use Rattle.word.specs.Word.{kind, payload, domainEnd, boolean, negated, lastBoolean, literalWord, lastCount, endWord};
 ghost use Rattle.word.specs.Padded.{cleared};
 ghost use Rattle.word.specs.Edge.{Edge, to, edgeWord, edgeBoolean, edgeOf};
 
@@ -44,13 +44,6 @@ pub fn end_of(w: u32) -> u32
     ensures { λ r. ⌜ r ≡ domainEnd w ⌝ }
 {
     payload_of(w) / 0x10000
-}
-
-// A term's coefficient.
-pub fn coefficient_of(w: u32) -> u32
-    ensures { λ r. ⌜ r ≡ coefficient w ⌝ }
-{
-    w % 0x10000
 }
 
 // A literal's Boolean.
