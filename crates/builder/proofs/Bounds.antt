@@ -1,7 +1,7 @@
 -- The first and the last step of building: an empty store, and the store of the bound's node. Assumes nothing.
-use mathlib.Core.Path.{_≡_, refl, sym, ap, _∙_}
+use mathlib.Core.Path.{_≡_, sym, ap, _∙_}
 use mathlib.Core.List.{List, []}
-use Prim.Native.Nat.{ℕ, _*_, _/_, _≤_, _<_}
+use Prim.Native.Nat.{ℕ, _/_, _<_}
 use native.Mathlib.Omega.{arith}
 use lib.IntN.{pos}
 use lib.ListN.{length, getD, length-map}
@@ -9,12 +9,12 @@ use Rattle.table.specs.Order.{used, Sorted}
 use Rattle.table.proofs.Flat.{used-length}
 use Rattle.constraint.specs.Lent.{levelsOf, Lent}
 use Rattle.constraint.proofs.Slices.{rest-at}
-use Rattle.diagram.specs.Level.{Level, R}
+use Rattle.diagram.specs.Level.{R}
 use Rattle.diagram.specs.Table.{table}
 use Rattle.diagram.specs.Flat.{recordOf}
 use Rattle.builder.specs.declared.Ends.{Ends}
 use Rattle.builder.specs.Store.{Store, NeedsMore}
-use Rattle.builder.specs.Built.{good, Ready, Good, NodeDone, Whole}
+use Rattle.builder.specs.Built.{good, Good, NodeDone, Whole}
 use Rattle.builder.proofs.Diagram.{store-is-table, table-needs-more}
 use Rattle.builder.proofs.Steps.{small}
 

@@ -1,21 +1,20 @@
 -- THE RECORDS OF THE TABLE are a store in order with just what the bound builds; so a finished store is the table, and a store without room shows that the
 -- table has more nodes. Assumes nothing.
-use mathlib.Core.Path.{_≡_, refl, sym, ap, ap₂, subst, subst₂, _∙_}
-use mathlib.Core.Logic.{_↔_, _⊎_, inl, inr, ⊎-elim}
-use mathlib.Core.List.{List, [], _∷_, map}
-use mathlib.Core.Bool.{Bool, true, false}
-use Prim.Native.Nat.{ℕ, suc, _≤_, _<_}
+use mathlib.Core.Path.{_≡_, refl, sym, ap, subst, _∙_}
+use mathlib.Core.Logic.{_↔_, _⊎_, inr, ⊎-elim}
+use mathlib.Core.List.{List, [], map}
+use Prim.Native.Nat.{ℕ, _≤_, _<_}
 use native.Mathlib.Nat.{le-refl, le-trans, ne-of-lt}
 use native.Mathlib.Omega.{arith}
-use lib.IntN.{ℤ, pos, negsuc}
+use lib.IntN.{ℤ, pos}
 use lib.ListN.{length, getD, take, drop, length-map}
 use Rattle.word.specs.Record.{Record}
-use Rattle.table.specs.Order.{key, Before, Proper, Among, Sorted, noRecord}
+use Rattle.table.specs.Order.{Before, Proper, Among, Sorted, noRecord}
 use Rattle.table.proofs.Order.{among-at, at-among, sorted-of}
-use Rattle.diagram.specs.Level.{Level, AllAscend, R, Choice, total, Same}
+use Rattle.diagram.specs.Level.{Level, AllAscend, R, total, Same}
 use Rattle.diagram.specs.Label.{Label, label, Holds, Undecided}
 use Rattle.diagram.specs.Table.{Node, noNode, table, root}
-use Rattle.diagram.specs.Claim.{nodeAt, OfLevel, remainder, Full, Whole}
+use Rattle.diagram.specs.Claim.{nodeAt, OfLevel, remainder, Whole}
 use Rattle.diagram.specs.Flat.{recordOf}
 use Rattle.diagram.proofs.Same.{less-pos, same-refl}
 use Rattle.diagram.proofs.Labels.{label-full, label-bounds, label-ext}
@@ -25,7 +24,7 @@ use Rattle.diagram.proofs.Standing.{ascend-drop, undecided-pos}
 use Rattle.diagram.proofs.Whole.{whole}
 use Rattle.diagram.proofs.Order.{strict-ext}
 use Rattle.diagram.proofs.Reach.{From, from-bound}
-use Rattle.builder.specs.Store.{Has, Right, Store, Noded, NeedsMore}
+use Rattle.builder.specs.Store.{Has, Right, Noded, NeedsMore}
 use Rattle.builder.proofs.Stores.{recordFor, lt-or-ge, right-for, Earlier, earlier-asym, sorted-strict, has-within}
 
 module _ (ls : List Level) (g : AllAscend ls) (a : ℤ) where

@@ -1,17 +1,14 @@
 -- The steps of building, one law for each place of the code. Assumes nothing.
 use mathlib.Core.Path.{_≡_, refl, sym, ap, ap₂, subst, subst₂, _∙_}
-use mathlib.Core.Logic.{_↔_, _⊎_, inl, inr, ⊎-elim}
-use mathlib.Core.List.{List, []}
+use mathlib.Core.List.{List}
 use mathlib.Core.Bool.{Bool, true, false}
-use Prim.Native.Nat.{ℕ, zero, suc, _+_, _-_, _*_, _/_, _≤_, _<_, min, max}
+use Prim.Native.Nat.{ℕ, suc, _+_, _-_, _*_, _/_, _≤_, _<_}
 use native.Mathlib.Omega.{arith}
 use lib.Dec.{ltb, leb}
-use lib.IntN.{pos}
 use lib.ListN.{length, getD, drop}
-use borrow.Author.Tests.{ltb-true, ltb-false, leb-true, leb-false, lt-ltb, le-ltb, le-leb, lt-leb}
+use borrow.Author.Tests.{ltb-true, ltb-false, leb-true, leb-false}
 use Rattle.word.specs.declared.Remainder.{Remainder}
 use Rattle.word.specs.Record.{Record}
-use Rattle.table.specs.declared.Found.{Found}
 use Rattle.table.specs.declared.Found.the-variants.{At, Nothing}
 use Rattle.table.specs.Find.{findIn}
 use Rattle.table.specs.Order.{used, noRecord, Placed, insertAt}
@@ -32,8 +29,8 @@ use Rattle.builder.specs.declared.Branch.the-variants.{False, True, On}
 use Rattle.builder.specs.declared.Built.{Built}
 use Rattle.builder.specs.declared.Built.the-variants.{Done, Full}
 use Rattle.builder.specs.Branch.{ends, labelOf, pick, branchOf, cutOf, overlapOf}
-use Rattle.builder.specs.Store.{Store, Noded, Rowed, NeedsMore}
-use Rattle.builder.specs.Built.{good, Ready, Good, Flat, Put, NoRoom, PutOk, NodeDone, NodeOk, CutBy, RowDone, RowOk}
+use Rattle.builder.specs.Store.{Noded, NeedsMore}
+use Rattle.builder.specs.Built.{good, Ready, Good, PutOk, NodeDone, NodeOk, CutBy, RowDone, RowOk}
 use Rattle.builder.proofs.Cuts.{Cut, cut-F, cut-T, cut-on, cut-end, cut-step, row-label}
 use Rattle.builder.proofs.Stores.{held, noded-found, rowed-end, rowed-skip, rowed-node, Free, free-kept, noded-new, needs-more, child-needs, later-needs}
 

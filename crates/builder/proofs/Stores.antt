@@ -1,14 +1,14 @@
 -- THE STORE THROUGH A STEP: what is found is there with all below it; a new node goes in at its place; a full store shows that the diagram needs more.
 -- Assumes nothing.
-use mathlib.Core.Path.{_≡_, refl, sym, ap, ap₂, subst, _∙_}
+use mathlib.Core.Path.{_≡_, refl, sym, ap, subst, _∙_}
 use mathlib.Core.Logic.{_↔_, _⊎_, inl, inr, ⊎-elim}
-use mathlib.Core.List.{List, [], _∷_, map}
+use mathlib.Core.List.{List}
 use mathlib.Core.Bool.{Bool, true, false}
-use Prim.Native.Nat.{ℕ, zero, suc, _+_, _*_, _-_, _≤_, _<_}
-use native.Mathlib.Nat.{le-refl, eq-or-lt-of-le, suc-inj, not-suc-le-zero}
+use Prim.Native.Nat.{ℕ, suc, _+_, _-_, _≤_, _<_}
+use native.Mathlib.Nat.{le-refl, eq-or-lt-of-le, suc-inj}
 use native.Mathlib.Omega.{arith}
 use lib.Dec.{ltb}
-use lib.IntN.{ℤ, pos, negsuc}
+use lib.IntN.{pos}
 use lib.ListN.{length, getD, drop}
 use borrow.Author.Tests.{ltb-true, ltb-false}
 use Rattle.word.specs.Record.{Record}
@@ -17,12 +17,11 @@ use Rattle.table.proofs.Order.{sorted-at, proper-at, among-at, at-among, insert
 use Rattle.diagram.specs.Level.{Level, AllAscend, R}
 use Rattle.diagram.specs.Label.{Label, label, Holds}
 use Rattle.diagram.specs.Claim.{levelAt}
-use Rattle.diagram.proofs.Same.{same-refl}
 use Rattle.diagram.proofs.Standing.{ascend-drop, deep}
-use Rattle.diagram.proofs.Labels.{Alike, alike-sym, alike-label, alike-undecided, holds-alike, label-bounds, label-meet, lower-alike, lower-undecided}
-use Rattle.diagram.proofs.Reach.{From, from-self, from-top, from-alike, from-trans, from-parts, part-from, Part}
-use Rattle.diagram.proofs.Order.{Strict, Within, within-shorter, strict-ext}
-use Rattle.builder.specs.Store.{Has, Right, Closed, Store, Noded, Kids, Rowed, NeedsMore}
+use Rattle.diagram.proofs.Labels.{Alike, alike-sym, alike-label, alike-undecided, holds-alike, label-bounds, lower-alike, lower-undecided}
+use Rattle.diagram.proofs.Reach.{From, from-self, from-alike, from-trans, from-parts, part-from, Part}
+use Rattle.diagram.proofs.Order.{Strict, Within, within-shorter}
+use Rattle.builder.specs.Store.{Has, Right, Store, Noded, Kids, Rowed, NeedsMore}
 
 pub lt-or-ge : (x y : ℕ) → (x < y) ⊎ (y ≤ x)
 lt-or-ge x y = go (ltb x y) refl

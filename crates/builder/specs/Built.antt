@@ -4,16 +4,14 @@ use mathlib.Core.Logic.{_↔_}
 use mathlib.Core.List.{List, map}
 use Prim.Native.Nat.{ℕ, suc, _+_, _*_, _/_, _≤_, _<_}
 use lib.IntN.{ℤ, pos}
-use lib.ListN.{length, getD, drop}
-use Rattle.word.specs.Record.{Record}
+use lib.ListN.{length, drop}
 use Rattle.table.specs.Order.{used, Placed, insertAt}
 use Rattle.constraint.specs.Lent.{levelsOf, Lent}
 use Rattle.diagram.specs.Level.{Level, AllAscend, R, less, Same}
-use Rattle.diagram.specs.Label.{Label, label, Holds}
-use Rattle.diagram.specs.Table.{Node, table}
+use Rattle.diagram.specs.Label.{label, Holds}
+use Rattle.diagram.specs.Table.{table}
 use Rattle.diagram.specs.Claim.{levelAt}
 use Rattle.diagram.specs.Flat.{recordOf}
-use Rattle.diagram.specs.Constraint.{Term}
 use Rattle.diagram.proofs.Terms.{levels-ascend}
 use Rattle.constraint.specs.Lent.{termsOf}
 use Rattle.builder.specs.declared.Ends.{Ends}

@@ -2,13 +2,12 @@
 use mathlib.Core.Path.{_≡_, refl, sym, ap, ap₂, _∙_}
 use mathlib.Core.List.{List, [], _∷_, _++_}
 use mathlib.Core.Bool.{Bool, true, false, not}
-use Prim.Native.Nat.{ℕ, suc, _+_, _%_, _≤_}
+use Prim.Native.Nat.{ℕ, suc, _+_, _≤_}
 use native.Mathlib.Omega.{arith}
-use lib.Dec.{eqb}
-use lib.ListN.{length, length-append}
+use lib.ListN.{length}
 use borrow.Author.Tests.{eq-eqb, ne-eqb, le-leb, lt-leb}
 use Rattle.word.specs.Word.{kind, payload, boolean, negated, lastBoolean, literalWord, lastCount, endWord}
-use Rattle.clause.specs.Meaning.{Literal, Clause, literalOf, joined, clausesOf, wordOf, closed, wordsOf}
+use Rattle.clause.specs.Meaning.{Clause, literalOf, joined, clausesOf, wordOf, closed, wordsOf}
 
 -- every number fits: Booleans of 29 bits, counts of 30
 abbrev pub LiteralsFit : Clause → Type 0

@@ -1,6 +1,6 @@
 -- THE KEYS OF A LEVEL are the lower ends of the labels of the undecided remainders that some choice of earlier values reaches, and no other number.
 -- They follow from the root's key, level by level. Assumes nothing.
-use mathlib.Core.Path.{_≡_, refl, sym, ap, subst, _∙_}
+use mathlib.Core.Path.{_≡_, refl, sym, subst, _∙_}
 use mathlib.Core.Logic.{_↔_, _⊎_, inl, inr, ⊎-elim}
 use mathlib.Core.List.{List, [], _∷_}
 use mathlib.Core.Bool.{Bool, true, false, cond}
@@ -10,11 +10,10 @@ use native.Mathlib.Omega.{arith}
 use lib.Dec.{ltb}
 use lib.IntN.{ℤ, pos, negsuc}
 use lib.ListN.{take, drop}
-use borrow.Author.Tests.{ltb-true, ltb-false, lt-ltb}
-use Rattle.diagram.specs.Level.{Level, Ascends, AllAscend, R, Choice, total, less}
+use borrow.Author.Tests.{ltb-true, ltb-false}
+use Rattle.diagram.specs.Level.{Level, AllAscend, R, Choice, total, less}
 use Rattle.diagram.specs.Label.{label}
 use Rattle.diagram.specs.Table.{insert, addKey, addRow, keysBelow, rootKeys}
-use Rattle.diagram.proofs.Same.{sub-pos, less-pos}
 use Rattle.diagram.proofs.Labels.{Alike, alike-sym, alike-undecided, alike-lower, alike-child, lower-alike}
 use Rattle.diagram.proofs.Keys.{Among, Asc, insert-asc, insert-in, in-insert}
 

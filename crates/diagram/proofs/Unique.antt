@@ -1,19 +1,19 @@
 -- DEMAND 3 SAYS ALL OF A TABLE: two that meet it are one, with one root and one count. Assumes nothing.
 use mathlib.Core.Path.{_≡_, refl, sym, ap, ap₂, subst, subst₂, _∙_}
-use mathlib.Core.Logic.{_↔_, _⊎_, inl, inr, ⊎-elim}
-use mathlib.Core.List.{List, [], _∷_, map}
-use Prim.Native.Nat.{ℕ, suc, _+_, _-_, _≤_, _<_}
-use native.Mathlib.Nat.{not-le-of-lt, le-refl}
+use mathlib.Core.Logic.{_⊎_, inl, inr}
+use mathlib.Core.List.{List, [], map}
+use Prim.Native.Nat.{ℕ, suc, _-_, _≤_, _<_}
+use native.Mathlib.Nat.{not-le-of-lt}
 use native.Mathlib.Omega.{arith}
 use lib.IntN.{ℤ, pos, negsuc}
-use lib.ListN.{length, getD, take, drop, length-map}
+use lib.ListN.{length, getD, drop, length-map}
 use lib.Seq.{ext-getD}
 use Rattle.word.specs.Edge.{Edge, F, T, to}
-use Rattle.diagram.specs.Level.{Level, AllAscend, R, Choice, less, Same}
-use Rattle.diagram.specs.Label.{Label, Holds, Undecided}
+use Rattle.diagram.specs.Level.{Level, AllAscend, less, Same}
+use Rattle.diagram.specs.Label.{Label, Holds}
 use Rattle.diagram.specs.Table.{Node, noNode, table, root}
-use Rattle.diagram.specs.Claim.{nodeAt, levelAt, OfLevel, remainder, BelowZero, AtTop, Leads, walk, Whole}
-use Rattle.diagram.proofs.Same.{same-sym, same-trans, same-most}
+use Rattle.diagram.specs.Claim.{nodeAt, levelAt, OfLevel, remainder, AtTop, Leads, walk, Whole}
+use Rattle.diagram.proofs.Same.{same-sym, same-most}
 use Rattle.diagram.proofs.Places.{map-at}
 use Rattle.diagram.proofs.Standing.{undecided-pos}
 use Rattle.diagram.proofs.Whole.{whole}

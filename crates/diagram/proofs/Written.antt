@@ -1,16 +1,16 @@
 -- The flat form read back: what stands at each place of the table words and of the edge list, and how long they are. Assumes nothing.
 use mathlib.Core.Path.{_≡_, refl, sym, ap, ap₂, _∙_}
 use mathlib.Core.List.{List, [], _∷_, _++_, map, append-assoc}
-use Prim.Native.Nat.{ℕ, zero, suc, _+_, _*_, _-_, _≤_, _<_}
+use Prim.Native.Nat.{ℕ, zero, suc, _+_, _*_, _-_, _<_}
 use native.Mathlib.Nat.{not-suc-le-zero, le-of-suc-le-suc}
 use native.Mathlib.Omega.{arith}
 use lib.ListN.{length, getD, take, drop, length-append, length-map}
 use lib.Seq.{take-at, drop-at, drop-drop}
 use borrow.Author.Tests.{ne-eqb}
 use Rattle.word.specs.Edge.{Edge, F, T, to, edgeWord}
-use Rattle.word.specs.Record.{Record, recordWords, laid, records}
+use Rattle.word.specs.Record.{Record, recordWords, records}
 use Rattle.diagram.specs.Level.{Level}
-use Rattle.diagram.specs.Table.{Node, noNode}
+use Rattle.diagram.specs.Table.{Node}
 use Rattle.diagram.specs.Claim.{nodeAt, levelAt}
 use Rattle.diagram.specs.Flat.{recordOf, recordsFrom, flat, tableWords, edgeWords, edgeCount, edgeIn, nodeIn, nodesIn}
 use Rattle.diagram.proofs.Places.{map-at, append-left, append-right}

@@ -5,7 +5,7 @@ use mathlib.Core.Bool.{cond}
 use Prim.Native.Nat.{ℕ, zero, suc, _+_}
 use lib.Dec.{ltb, leb, eqb}
 use lib.IntN.{ℤ, pos, negsuc}
-use lib.ListN.{length, getD}
+use lib.ListN.{length}
 use Rattle.word.specs.Edge.{Edge, F, T, to}
 use Rattle.diagram.specs.Level.{Level, R, less}
 use Rattle.diagram.specs.Label.{Label, label}

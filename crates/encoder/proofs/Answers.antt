@@ -1,27 +1,23 @@
 -- THE REPLY BY ITS TESTS: the diagram's own counts from the sum over its records, which test decides, and the reply with its lists. Assumes nothing.
-use mathlib.Core.Path.{_≡_, refl, sym, ap, ap₂, subst, _∙_}
-use mathlib.Core.List.{List, map}
+use mathlib.Core.Path.{_≡_, refl, sym, ap, subst}
+use mathlib.Core.List.{List}
 use mathlib.Core.Bool.{Bool, true, false}
-use Prim.Native.Nat.{ℕ, suc, _+_, _*_, _-_, _/_, _≤_, _<_, min}
+use Prim.Native.Nat.{ℕ, _+_, _*_, _-_, _≤_, _<_}
 use native.Mathlib.Omega.{arith}
 use lib.Dec.{ltb}
-use lib.IntN.{pos}
-use lib.ListN.{length, replicate}
+use lib.ListN.{length}
 use borrow.Author.Tests.{lt-ltb, le-ltb, ltb-false}
 use Rattle.word.specs.Word.{lastBoolean}
 use Rattle.word.specs.Edge.{Edge}
-use Rattle.word.specs.Padded.{padded}
 use Rattle.refusal.specs.declared.Refusal.{Refusal}
 use Rattle.refusal.specs.declared.Refusal.the-variants.{TooManyNodes, TooManyEdges, TooManyWords, TooManyBooleans}
 use Rattle.table.specs.Order.{used}
 use Rattle.table.proofs.Flat.{used-length}
-use Rattle.diagram.specs.Level.{Level}
-use Rattle.diagram.specs.Table.{Node}
-use Rattle.diagram.specs.Flat.{tableWords, edgeWords, edgeCount}
-use Rattle.diagram.specs.Constraint.{Constraint, levels, Within}
+use Rattle.diagram.specs.Flat.{edgeCount}
+use Rattle.diagram.specs.Constraint.{Constraint, Within}
 use Rattle.encoding.specs.Boolean.{orders}
-use Rattle.encoding.specs.Pattern.{clauseWords, wordCount}
-use Rattle.constraint.specs.Lent.{termsOf, levelsOf, Lent}
+use Rattle.encoding.specs.Pattern.{wordCount}
+use Rattle.constraint.specs.Lent.{termsOf, Lent}
 use Rattle.constraint.proofs.Slices.{levels-count}
 use Rattle.constraint.proofs.Laws.{length-levels}
 use Rattle.edges.specs.Sum.{endSum, Countable}
@@ -29,7 +25,7 @@ use Rattle.edges.proofs.Laws.{order-words, sum-fits, table-countable, edge-sum,
 use Rattle.encoder.specs.declared.Counts.{Counts}
 use Rattle.encoder.specs.declared.Encoded.{Encoded}
 use Rattle.encoder.specs.declared.Encoded.the-variants.{Accepted, Refused}
-use Rattle.encoder.specs.Encoded.{levelsIn, nodesFor, rootFor, capacity, refuseIf, counted, left}
+use Rattle.encoder.specs.Encoded.{levelsIn, nodesFor, capacity, refuseIf, counted, left}
 use Rattle.encoder.specs.Promise.{Demands, WhenAccepted}
 use Rattle.encoder.specs.Passes.{constraintOf, Tabled, Roomy, Filled, Cleared, leftIn, Answered}
 use Rattle.encoder.proofs.Meant.{demands-met}

@@ -2,13 +2,11 @@
 -- drawing and clauses that admit just the solutions. Assumes nothing.
 use mathlib.Core.Path.{_≡_, refl, sym, ap, subst, _∙_}
 use mathlib.Core.List.{List, [], _∷_}
-use mathlib.Core.Bool.{Bool, true, false}
-use Prim.Native.Nat.{ℕ, zero, suc, _+_, _*_, _-_, _≤_, _<_}
-use native.Mathlib.Nat.{le-refl, le-trans}
+use Prim.Native.Nat.{ℕ, suc, _+_, _-_, _≤_, _<_}
+use native.Mathlib.Nat.{le-refl}
 use native.Mathlib.Omega.{arith}
-use lib.Dec.{ltb, eqb}
-use lib.IntN.{ℤ, pos, negsuc}
-use lib.ListN.{length, getD, take, drop, replicate}
+use lib.IntN.{ℤ, pos}
+use lib.ListN.{length, getD, replicate}
 use lib.Seq.{take-at}
 use borrow.Author.Tests.{eq-eqb, lt-ltb, le-ltb}
 use Rattle.word.specs.Padded.{padded}
@@ -16,10 +14,10 @@ use Rattle.word.specs.Edge.{Edge, F, T, to}
 use Rattle.diagram.specs.Level.{Level, AllAscend, R, less}
 use Rattle.diagram.specs.Label.{label}
 use Rattle.diagram.specs.Table.{Node, insert, place, addKey, rootKeys, nodesFrom, keysBelow, table, root}
-use Rattle.diagram.specs.Claim.{nodeAt, levelAt, OfLevel, Leads, Whole}
+use Rattle.diagram.specs.Claim.{nodeAt, levelAt, Leads, Whole}
 use Rattle.diagram.specs.Right.{Right}
-use Rattle.diagram.specs.Flat.{tableWords, edgeWords, edgeCount, nodesIn}
-use Rattle.diagram.specs.Constraint.{Constraint, levels, Within}
+use Rattle.diagram.specs.Flat.{tableWords, edgeWords, edgeCount}
+use Rattle.diagram.specs.Constraint.{Constraint, Within}
 use Rattle.diagram.proofs.Terms.{levels-ascend}
 use Rattle.diagram.proofs.Whole.{whole}
 use Rattle.diagram.proofs.Drawn.{table-right}
@@ -29,7 +27,6 @@ use Rattle.encoding.specs.Pattern.{clauseWords, wordCount}
 use Rattle.encoding.specs.Claim.{Admits}
 use Rattle.encoding.proofs.Fits.{own-level, right-filled, words-count}
 use Rattle.encoding.proofs.Demand.{demand-2}
-use Rattle.encoder.specs.declared.Counts.{Counts}
 use Rattle.encoder.specs.Encoded.{levelsIn, nodesFor, rootFor}
 use Rattle.encoder.specs.Promise.{Demands}
 

@@ -1,12 +1,12 @@
 -- WHAT THE PASSES HAND ON: a built table to the edge list, a linked one to the clauses, and the written lists to the result with zeros behind. Assumes nothing.
-use mathlib.Core.Path.{_≡_, refl, sym, ap, ap₂, subst, _∙_}
-use mathlib.Core.List.{List, [], _∷_, _++_, map}
-use Prim.Native.Nat.{ℕ, zero, suc, _+_, _*_, _-_, _≤_, _<_}
+use mathlib.Core.Path.{_≡_, refl, sym, ap, subst, _∙_}
+use mathlib.Core.List.{List, [], _∷_, map}
+use Prim.Native.Nat.{ℕ, _*_, _-_, _≤_}
 use native.Mathlib.Omega.{arith}
 use lib.IntN.{pos}
 use lib.ListN.{length, take}
 use Rattle.word.specs.Edge.{Edge}
-use Rattle.word.specs.Padded.{padded, cleared}
+use Rattle.word.specs.Padded.{cleared}
 use Rattle.word.proofs.Cleared.{cleared-padded}
 use Rattle.diagram.specs.Level.{Level}
 use Rattle.diagram.specs.Table.{Node, table, root}
@@ -25,7 +25,6 @@ use Rattle.edges.specs.Linked.{Finished, Linked}
 use Rattle.clauses.specs.Drawing.{Drawing, Drawn, Listed}
 use Rattle.clauses.proofs.Laws.{right-drawing}
 use Rattle.encoder.specs.declared.Counts.{Counts}
-use Rattle.encoder.specs.Encoded.{levelsIn, nodesFor, rootFor}
 use Rattle.encoder.specs.Passes.{constraintOf, Tabled, Roomy, Filled}
 use Rattle.encoder.proofs.Lists.{used-words}
 

@@ -1,22 +1,19 @@
 -- THE BUILT TABLE inside the lent one: the diagram's records stand at its front, whatever stands behind the capacity. Assumes nothing.
-use mathlib.Core.Path.{_≡_, refl, sym, ap, subst, _∙_}
-use mathlib.Core.List.{List, [], _++_, map}
-use Prim.Native.Nat.{ℕ, _+_, _*_, _-_, _/_, _≤_, _<_, min}
+use mathlib.Core.Path.{_≡_, sym, ap, _∙_}
+use mathlib.Core.List.{List, _++_, map}
+use Prim.Native.Nat.{ℕ, _+_, _*_, _-_, _/_, _≤_, _<_}
 use native.Mathlib.Omega.{arith}
 use lib.IntN.{pos}
 use lib.ListN.{length, take, drop, length-append, length-take, length-drop}
-use Rattle.word.specs.Record.{Record}
 use Rattle.word.specs.Edge.{T, to}
 use Rattle.refusal.specs.declared.Refusal.the-variants.{TooManyNodes}
-use Rattle.table.specs.Order.{used}
 use Rattle.diagram.specs.Level.{R}
-use Rattle.diagram.specs.Table.{Node, table}
+use Rattle.diagram.specs.Table.{table}
 use Rattle.diagram.specs.Flat.{recordOf, tableWords}
 use Rattle.encoding.specs.Boolean.{orders}
 use Rattle.constraint.specs.Lent.{levelsOf}
 use Rattle.builder.specs.Built.{Whole}
 use Rattle.encoder.specs.declared.Encoded.{Encoded}
-use Rattle.encoder.specs.declared.Encoded.the-variants.{Accepted, Refused}
 use Rattle.encoder.specs.Encoded.{nodesFor, capacity, counted}
 use Rattle.encoder.specs.Passes.{constraintOf, Tabled, Cleared, leftIn, Answered}
 use Rattle.encoder.proofs.Meant.{root-T, root-to}

@@ -1,10 +1,10 @@
 -- FROM THE WORDS to the passes: the record's arrays are the slices of the constraint that the words state; and from the passes' answer to the promise.
 -- Assumes nothing.
-use mathlib.Core.Path.{_≡_, refl, sym, ap, ap₂, subst, _∙_}
+use mathlib.Core.Path.{_≡_, sym, ap, subst, _∙_}
 use mathlib.Core.List.{List, [], _∷_, map}
-use Prim.Native.Nat.{ℕ, suc, _+_, _-_, _≤_, _<_}
+use Prim.Native.Nat.{ℕ, suc, _+_, _-_, _≤_}
 use native.Mathlib.Omega.{arith}
-use lib.IntN.{ℤ, pos}
+use lib.IntN.{pos}
 use lib.ListN.{length, take, replicate, length-append, length-map, length-replicate}
 use Rattle.word.specs.Padded.{padded}
 use mathlib.Core.Bool.{true, cond}
@@ -14,7 +14,6 @@ use Rattle.refusal.specs.declared.Refusal.{Refusal}
 use Rattle.refusal.specs.declared.Checked.{Checked}
 use Rattle.refusal.specs.declared.Checked.the-variants as check
 use Rattle.diagram.specs.Constraint.{Term, Constraint, levels, Within}
-use Rattle.diagram.specs.Level.{Level}
 use Rattle.diagram.specs.Flat.{tableWords, edgeWords}
 use Rattle.encoding.specs.Boolean.{orders}
 use Rattle.encoding.specs.Pattern.{clauseWords}
@@ -25,7 +24,7 @@ use Rattle.constraint.specs.declared.Constraint.{Constraint as Held}
 use Rattle.constraint.proofs.Laws.{checked-within, length-levels, length-rests, Early, early}
 use Rattle.constraint.proofs.Slices.{record-lent}
 use Rattle.encoder.specs.declared.Encoded.{Encoded}
-use Rattle.encoder.specs.declared.Encoded.the-variants.{Accepted, Refused}
+use Rattle.encoder.specs.declared.Encoded.the-variants.{Refused}
 use Rattle.encoder.specs.Encoded.{levelsIn, nodesFor, rootFor, unlessRefused, counted, encoded, left}
 use Rattle.encoder.specs.Promise.{Promise}
 use Rattle.encoder.specs.Passes.{constraintOf, leftIn, Answered}

@@ -1,8 +1,8 @@
 -- DEMAND 2: the clause words of a right drawing, and so those of a constraint within the limits, admit just the solutions. Assumes nothing.
-use mathlib.Core.Path.{_≡_, refl, sym, subst}
+use mathlib.Core.Path.{sym, subst}
 use mathlib.Core.Logic.{_↔_}
 use mathlib.Core.List.{List, [], _∷_}
-use Prim.Native.Nat.{ℕ, _+_, _*_, _≤_}
+use Prim.Native.Nat.{_+_, _*_, _≤_}
 use native.Mathlib.Omega.{arith}
 use lib.IntN.{ℤ}
 use lib.ListN.{length}
@@ -14,7 +14,7 @@ use Rattle.diagram.specs.Right.{Right}
 use Rattle.diagram.specs.Constraint.{Term, Constraint, levels, AllLimited, Within}
 use Rattle.diagram.proofs.Drawn.{table-right}
 use Rattle.diagram.proofs.Terms.{levels-ascend}
-use Rattle.clause.specs.Meaning.{Clause, Values, AllTrue, clausesOf}
+use Rattle.clause.specs.Meaning.{Clause, Values, AllTrue}
 use Rattle.clause.proofs.Written.{read-written}
 use Rattle.encoding.specs.Boolean.{orders}
 use Rattle.encoding.specs.Pattern.{pattern, clauseWords}

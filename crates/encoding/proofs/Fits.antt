@@ -9,11 +9,9 @@ use lib.ListN.{length, getD}
 use Rattle.word.specs.Word.{lastBoolean}
 use Rattle.word.specs.Edge.{Edge, F, T, to, edgeBoolean}
 use Rattle.diagram.specs.Level.{Level, less}
-use Rattle.diagram.specs.Table.{Node, noNode}
+use Rattle.diagram.specs.Table.{Node}
 use Rattle.diagram.specs.Claim.{nodeAt, levelAt, OfLevel, Leads}
 use Rattle.diagram.specs.Right.{Right}
-use Rattle.diagram.proofs.Drawn.{Child, below, above, at, child-cases}
-use Rattle.clause.specs.Meaning.{Clause}
 use Rattle.clause.proofs.Written.{Fit, fit-append, size, size-append, words-length}
 use Rattle.encoding.specs.Boolean.{orders, ordersBefore}
 use Rattle.encoding.specs.Pattern.{orderOf, ordersOf, unitsOf, childrenOf, nodeOf, nodesOf, pattern, clauseWords, orderWords, nodeWords, wordCount}

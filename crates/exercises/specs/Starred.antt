@@ -2,14 +2,12 @@
 -- other children, edge lists and clause words) was worked out apart from these definitions, from the meaning alone: by listing all choices and which of them
 -- each right-hand side allows. Assumes nothing.
 use mathlib.Core.Path.{_≡_, refl}
-use mathlib.Core.List.{List, [], _∷_, _++_, map}
+use mathlib.Core.List.{List, [], _∷_, map}
 use Prim.Native.Nat.{ℕ}
-use lib.ListN.{length}
 use Rattle.word.specs.Edge.{Edge, F, T, to}
 use Rattle.refusal.specs.Table.{numberOf, placeOf}
 use Rattle.refusal.specs.declared.Checked.{Checked}
 use Rattle.refusal.specs.declared.Checked.the-variants.{Passed, Refused}
-use Rattle.diagram.specs.Level.{Level}
 use Rattle.diagram.specs.Label.{overlap, labelOf}
 use Rattle.diagram.specs.Table.{Node, insert, place, addKey, addRow, keysBelow, rootKeys, edgeTo, row, nodeOf, nodesFrom, table, root}
 use Rattle.diagram.specs.Flat.{edgeWords}

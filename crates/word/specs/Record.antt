@@ -1,6 +1,6 @@
 -- THE RECORD of a node in the flat table: its fields, the words that lay it out, and the records of a list of words.
 -- Assumes nothing.
-use mathlib.Core.List.{List, [], _∷_, _++_}
+use mathlib.Core.List.{List, [], _∷_}
 use Prim.Native.Nat.{ℕ}
 
 -- Level, lower end, upper end, and the first place in the edge list.

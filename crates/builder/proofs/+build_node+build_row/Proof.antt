@@ -2,10 +2,10 @@
 -- step of building. Assumes nothing.
 use types.Run.{OneOf}
 use denote.Enum.Declared.{tagOf}
-use mathlib.Core.Path.{_≡_, refl, sym, ap, _∙_, subst}
+use mathlib.Core.Path.{_≡_, refl, sym, _∙_}
 use mathlib.Core.Logic.{⊎-elim}
-use mathlib.Core.List.{List, [], _∷_}
-use Prim.Native.Nat.{ℕ, suc, _+_, _-_, _*_, _≤_, _<_}
+use mathlib.Core.List.{[], _∷_}
+use Prim.Native.Nat.{ℕ, _+_, _-_, _*_, _<_}
 use native.Mathlib.Omega.{arith}
 use lib.ListN.{length, getD}
 use borrow.Author.Needs.{needs}
@@ -15,7 +15,6 @@ use Rattle.word.specs.declared.Remainder.{Remainder}
 use Rattle.constraint.proofs.Slices.{rest-at, rests-count}
 use Rattle.builder.specs.declared.Branch.{Branch}
 use Rattle.builder.specs.declared.Branch.the-variants.{False, True, On}
-use Rattle.builder.specs.Built.{Good}
 use Rattle.builder.proofs.Steps.{small, product, ready-next, end-small, on-case, found-ok, node-put-ok, row-end-ok, row-skip-ok, row-node-ok, row-full-ok, moved-fits}
 use Rattle.builder.proofs.Branch as Branch-declared
 use Rattle.builder.proofs.build_node.Reads as build-node

@@ -1,5 +1,5 @@
 -- `builder::build` meets its contract: the node of the bound, built into an empty store, is the diagram. Assumes nothing.
-use mathlib.Core.Path.{_≡_, refl}
+use mathlib.Core.Path.{refl}
 use Prim.Native.Nat.{_<_}
 use native.Mathlib.Omega.{arith}
 use lib.ListN.{getD}

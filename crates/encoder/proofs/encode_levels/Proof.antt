@@ -1,5 +1,4 @@
 -- `encoder::encode_levels` meets its contract: the diagram is built into the capacity, and what the passes then say holds of the whole table. Assumes nothing.
-use mathlib.Core.Path.{_∙_}
 use Rattle.encoder.proofs.Tables.{part-length, whole-length, tabled-T, tabled-node, same-answer, full-answer}
 use borrow.Author.Needs.{needs}
 use Rattle.encoder.proofs.encode_levels.Statement.{statement}
