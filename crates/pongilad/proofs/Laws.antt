@@ -1,0 +1,32 @@
+-- Laws of the replies as numbers: a refusal's fields from its number and place, and the encoder's promise carried from its reply to the definition of that reply.
+-- Assumes nothing.
+use mathlib.Core.Path.{_≡_, sym, ap, subst, _∙_}
+use mathlib.Core.List.{List}
+use Prim.Native.Nat.{ℕ}
+use Rattle.refusal.specs.Table.{numberOf, placeOf}
+use Rattle.refusal.specs.declared.Refusal.{Refusal}
+use Rattle.tester.specs.declared.Tested.{Tested}
+use Rattle.tester.specs.declared.Tested.the-variants.{Unfit}
+use Rattle.encoder.specs.declared.Encoded.{Encoded}
+use Rattle.encoder.specs.declared.Encoded.the-variants.{Refused}
+use Rattle.encoder.specs.Promise.{Promise}
+use Rattle.pongilad.specs.declared.EncodedReply.{EncodedReply}
+use Rattle.pongilad.specs.declared.TestedReply.{TestedReply}
+use Rattle.pongilad.specs.Fields.{encodedFields, testedFields, Encodes}
+
+abbrev pub refusalFields : ℕ → ℕ → EncodedReply
+refusalFields n p = record { number = n; place = p; nodes = 0; edges = 0; words = 0 }
+
+pub refused-fields : (v : Encoded) (x : Refusal) (n p : ℕ) → v ≡ Refused x → n ≡ numberOf x → p ≡ placeOf x → refusalFields n p ≡ encodedFields v
+refused-fields v x n p is en ep =
+    (λ i. record { number = en i; place = ep i; nodes = 0; edges = 0; words = 0 }) ∙ sym (ap encodedFields is)
+
+abbrev pub unfitFields : ℕ → ℕ → TestedReply
+unfitFields n p = record { verdict = 2; number = n; place = p }
+
+pub unfit-fields : (v : Tested) (x : Refusal) (n p : ℕ) → v ≡ Unfit x → n ≡ numberOf x → p ≡ placeOf x → unfitFields n p ≡ testedFields v
+unfit-fields v x n p is en ep = (λ i. record { verdict = 2; number = en i; place = ep i }) ∙ sym (ap testedFields is)
+
+pub encodes : (ws t e w t′ e′ w′ : List ℕ) (x : Encoded) (r : EncodedReply) → r ≡ encodedFields x → Promise ws t e w t′ e′ w′ x → Encodes ws t e w t′ e′ w′ r
+encodes ws t e w t′ e′ w′ x r fields p =
+    record { fields = fields ∙ ap encodedFields (p .reply); lists = subst (Promise ws t e w t′ e′ w′) (p .reply) p }

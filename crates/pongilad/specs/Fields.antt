@@ -1,0 +1,44 @@
+-- THE REPLIES AS NUMBERS, for callers in C: what each field of a reply holds. Assumes nothing.
+use mathlib.Core.Path.{_≡_}
+use mathlib.Core.List.{List}
+use mathlib.Core.Bool.{Bool, true, false}
+use Prim.Native.Nat.{ℕ}
+use lib.ListN.{length}
+use Rattle.refusal.specs.Table.{numberOf, placeOf}
+use Rattle.table.specs.declared.Found.{Found}
+use Rattle.table.specs.declared.Found.the-variants.{At, Nothing}
+use Rattle.tester.specs.declared.Tested.{Tested}
+use Rattle.tester.specs.declared.Tested.the-variants.{AllTrue, NotTrue, Unfit}
+use Rattle.encoder.specs.declared.Encoded.{Encoded}
+use Rattle.encoder.specs.declared.Encoded.the-variants.{Accepted, Refused}
+use Rattle.encoder.specs.Encoded.{encoded}
+use Rattle.encoder.specs.Promise.{Promise}
+use Rattle.pongilad.specs.declared.EncodedReply.{EncodedReply}
+use Rattle.pongilad.specs.declared.FoundReply.{FoundReply}
+use Rattle.pongilad.specs.declared.TestedReply.{TestedReply}
+
+-- An accepted call has number 0, place 0 and its counts; a refusal has the number and place of its row, and zero counts.
+abbrev pub encodedFields : Encoded → EncodedReply
+encodedFields (Accepted n) = record { number = 0; place = 0; nodes = n .nodes; edges = n .edges; words = n .words }
+encodedFields (Refused x) = record { number = numberOf x; place = placeOf x; nodes = 0; edges = 0; words = 0 }
+
+-- 1 and the record's number; where there is none, 0 and 0.
+abbrev pub foundFields : Found → FoundReply
+foundFields (At k) = record { found = 1; number = k .0 }
+foundFields Nothing = record { found = 0; number = 0 }
+
+-- All true is 0 with number and place 0; a clause without a true literal is 1, its number and the place of its first word; a refusal is 2, its number and place.
+abbrev pub testedFields : Tested → TestedReply
+testedFields AllTrue = record { verdict = 0; number = 0; place = 0 }
+testedFields (NotTrue k at) = record { verdict = 1; number = k; place = at }
+testedFields (Unfit x) = record { verdict = 2; number = numberOf x; place = placeOf x }
+
+-- Yes is 1, no is 0.
+abbrev pub comparedField : Bool → ℕ
+comparedField true = 1
+comparedField false = 0
+
+-- THE ENCODING CALL: its fields are those of the encoder's reply, and with that reply the three lent lists keep the encoder's promise.
+pub record Encodes (ws t e w : List ℕ) (t′ e′ w′ : List ℕ) (r : EncodedReply) : Type 0 where
+  pub fields : r ≡ encodedFields (encoded ws (length t) (length e) (length w))
+  pub lists : Promise ws t e w t′ e′ w′ (encoded ws (length t) (length e) (length w))

@@ -1,0 +1,141 @@
+// The calls of the static library, for C and Rust: each slice is a pointer and a length, each reply a struct of numbers. include/pongilad.h is their C side.
+use encoder::Encoded;
+use table::Found;
+use tester::Tested;
+use word::Remainder;
+ghost use mathlib.Core.Path.{_≡_};
+ghost use Rattle.word.specs.Record.{records};
+ghost use Rattle.table.specs.Find.{findIn};
+ghost use Rattle.comparer.specs.Bytes.{sameBytes};
+ghost use Rattle.tester.specs.Tested.{tested};
+ghost use Rattle.pongilad.specs.Fields.{encodedFields, foundFields, testedFields, comparedField, Encodes};
+
+// The encoder's reply: number 0 and the counts, or a refusal's number and place.
+#[repr(C)]
+pub struct EncodedReply {
+    pub number: u64,
+    pub place: u64,
+    pub nodes: u64,
+    pub edges: u64,
+    pub words: u64,
+}
+
+// The finder's reply: found is 1 and number a record's, or both are 0.
+#[repr(C)]
+pub struct FoundReply {
+    pub found: u64,
+    pub number: u64,
+}
+
+// The clause tester's reply: verdict 0, all true; 1, the number and place of a clause; 2, those of a refusal.
+#[repr(C)]
+pub struct TestedReply {
+    pub verdict: u64,
+    pub number: u64,
+    pub place: u64,
+}
+
+// The fields of an encoder's reply.
+fn encoded_reply(x: Encoded) -> EncodedReply
+    ensures { λ r. ⌜ r ≡ encodedFields x ⌝ }
+{
+    match x {
+        Encoded::Accepted(n) => EncodedReply {
+            number: 0,
+            place: 0,
+            nodes: n.nodes as u64,
+            edges: n.edges as u64,
+            words: n.words as u64,
+        },
+        Encoded::Refused(y) => EncodedReply {
+            number: y.number() as u64,
+            place: y.place() as u64,
+            nodes: 0,
+            edges: 0,
+            words: 0,
+        },
+    }
+}
+
+// The fields of a finder's reply.
+fn found_reply(x: Found) -> FoundReply
+    ensures { λ r. ⌜ r ≡ foundFields x ⌝ }
+{
+    match x {
+        Found::At(k) => FoundReply {
+            found: 1,
+            number: k.0 as u64,
+        },
+        Found::Nothing => FoundReply {
+            found: 0,
+            number: 0,
+        },
+    }
+}
+
+// The fields of a clause tester's reply.
+fn tested_reply(x: Tested) -> TestedReply
+    ensures { λ r. ⌜ r ≡ testedFields x ⌝ }
+{
+    match x {
+        Tested::AllTrue => TestedReply {
+            verdict: 0,
+            number: 0,
+            place: 0,
+        },
+        Tested::NotTrue(clause, at) => TestedReply {
+            verdict: 1,
+            number: clause as u64,
+            place: at as u64,
+        },
+        Tested::Unfit(y) => TestedReply {
+            verdict: 2,
+            number: y.number() as u64,
+            place: y.place() as u64,
+        },
+    }
+}
+
+// The node table, the edge list and the clause list of the constraint that the words state.
+#[no_mangle]
+pub extern "C" fn pongilad_encode(
+    words: &[u32],
+    table: &mut [u32],
+    edges: &mut [u32],
+    clauses: &mut [u32],
+) -> EncodedReply
+    ensures { λ r. ⌜ Encodes (now (words .entry)) (now (table .entry)) (now (edges .entry)) (now (clauses .entry)) (now (table .exit)) (now (edges .exit)) (now (clauses .exit)) r ⌝ }
+{
+    let x = encoder::encode(words, table, edges, clauses);
+    encoded_reply(x)
+}
+
+// The first record of the level whose label holds the remainder.
+#[no_mangle]
+pub extern "C" fn pongilad_find(table: &[u32], level: u32, remainder: u32) -> FoundReply
+    ensures { λ r. ⌜ r ≡ foundFields (findIn (records (now (table .entry))) level remainder) ⌝ }
+{
+    let x = table::find(table, level, Remainder(remainder));
+    found_reply(x)
+}
+
+// Whether every clause is true under the values, and if not, which is the first that is false or what is refused.
+#[no_mangle]
+pub extern "C" fn pongilad_test(values: &[u8], clauses: &[u32]) -> TestedReply
+    ensures { λ r. ⌜ r ≡ testedFields (tested (now (values .entry)) (now (clauses .entry))) ⌝ }
+{
+    let x = tester::test(values, clauses);
+    tested_reply(x)
+}
+
+// 1 where the bytes are the words, most significant byte first, with none left over; otherwise 0.
+#[no_mangle]
+pub extern "C" fn pongilad_compare(bytes: &[u8], words: &[u32]) -> u64
+    ensures { λ r. ⌜ r ≡ comparedField (sameBytes (now (bytes .entry)) (now (words .entry))) ⌝ }
+{
+    if comparer::compare(bytes, words) {
+        1
+    } else {
+        0
+    }
+}
