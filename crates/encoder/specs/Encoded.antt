@@ -9,7 +9,7 @@ use Rattle.word.specs.Word.{lastBoolean}
 use Rattle.word.specs.Edge.{Edge}
 use Rattle.word.specs.Record.{recordWords}
 use Rattle.word.specs.Padded.{padded}
-use Rattle.refusal.specs.Table.{numberOf}
+use Rattle.refusal.specs.Table.{numberOf, placeOf}
 use Rattle.refusal.specs.declared.Refusal.{Refusal}
 use Rattle.refusal.specs.declared.Refusal.the-variants.{TooManyNodes, TooManyEdges, TooManyWords, TooManyBooleans}
 use Rattle.refusal.specs.declared.Checked.{Checked}
@@ -60,7 +60,19 @@ unlessRefused (check.Refused x) next = Refused x
 unfoldable pub encoded : List ℕ → ℕ → ℕ → ℕ → Encoded
 encoded ws t e w = unlessRefused (checked ws) (counted (stated ws) t e w)
 
--- WHAT A LENT LIST HOLDS after the call: the result with zeros behind it; what it held, after refusals 1 to 5; zeros, after the others.
+-- THE VALUES OF A REPLY, in document 01's terms: number and place of the refusal, 0 and 0 without one; the counts, zero with one.
+pub record Values : Type 0 where
+  pub number : ℕ
+  pub place : ℕ
+  pub nodes : ℕ
+  pub edges : ℕ
+  pub words : ℕ
+
+abbrev pub valuesOf : Encoded → Values
+valuesOf (Accepted n) = record { number = 0; place = 0; nodes = n .nodes; edges = n .edges; words = n .words }
+valuesOf (Refused x) = record { number = numberOf x; place = placeOf x; nodes = 0; edges = 0; words = 0 }
+
+-- WHAT A LENT LIST HOLDS after the call: the result with zeros behind it; what it held, after refusals 1 to 5; zeros, after 6 to 9.
 abbrev pub left : Encoded → List ℕ → List ℕ → List ℕ
 left (Accepted n) old result = padded (length old) result
-left (Refused x) old result = cond (leb (numberOf x) 5) old (replicate (length old) 0)
+left (Refused x) old result = cond (leb (valuesOf (Refused x) .number) 5) old (replicate (length old) 0)

@@ -10,17 +10,15 @@ use Rattle.table.specs.declared.Found.the-variants.{At, Nothing}
 use Rattle.tester.specs.declared.Tested.{Tested}
 use Rattle.tester.specs.declared.Tested.the-variants.{AllTrue, NotTrue, Unfit}
 use Rattle.encoder.specs.declared.Encoded.{Encoded}
-use Rattle.encoder.specs.declared.Encoded.the-variants.{Accepted, Refused}
-use Rattle.encoder.specs.Encoded.{encoded}
+use Rattle.encoder.specs.Encoded.{Values, valuesOf, encoded}
 use Rattle.encoder.specs.Promise.{Promise}
 use Rattle.pongilad.specs.declared.EncodedReply.{EncodedReply}
 use Rattle.pongilad.specs.declared.FoundReply.{FoundReply}
 use Rattle.pongilad.specs.declared.TestedReply.{TestedReply}
 
--- An accepted call has number 0, place 0 and its counts; a refusal has the number and place of its row, and zero counts.
+-- The values of the encoder's reply: number 0 and the counts, or the refusal's number and place with zero counts.
 abbrev pub encodedFields : Encoded → EncodedReply
-encodedFields (Accepted n) = record { number = 0; place = 0; nodes = n .nodes; edges = n .edges; words = n .words }
-encodedFields (Refused x) = record { number = numberOf x; place = placeOf x; nodes = 0; edges = 0; words = 0 }
+encodedFields x = let v : Values = valuesOf x in record { number = v .number; place = v .place; nodes = v .nodes; edges = v .edges; words = v .words }
 
 -- 1 and the record's number; where there is none, 0 and 0.
 abbrev pub foundFields : Found → FoundReply
