@@ -14,6 +14,7 @@ use Rattle.pongilad.specs.declared.EncodedReply.{EncodedReply}
 use Rattle.pongilad.specs.declared.TestedReply.{TestedReply}
 use Rattle.pongilad.specs.Fields.{encodedFields, testedFields, Encodes}
 
+-- The fields of a refused encoding, from the refusal's number and place.
 abbrev pub refusalFields : ℕ → ℕ → EncodedReply
 refusalFields n p = record { number = n; place = p; nodes = 0; edges = 0; words = 0 }
 
@@ -21,12 +22,14 @@ pub refused-fields : (v : Encoded) (x : Refusal) (n p : ℕ) → v ≡ Refused x
 refused-fields v x n p is en ep =
     (λ i. record { number = en i; place = ep i; nodes = 0; edges = 0; words = 0 }) ∙ sym (ap encodedFields is)
 
+-- The same for a refused test.
 abbrev pub unfitFields : ℕ → ℕ → TestedReply
 unfitFields n p = record { verdict = 2; number = n; place = p }
 
 pub unfit-fields : (v : Tested) (x : Refusal) (n p : ℕ) → v ≡ Unfit x → n ≡ numberOf x → p ≡ placeOf x → unfitFields n p ≡ testedFields v
 unfit-fields v x n p is en ep = (λ i. record { verdict = 2; number = en i; place = ep i }) ∙ sym (ap testedFields is)
 
+-- The encoding call's promise from the encoder's, which names its own reply.
 pub encodes : (ws t e w t′ e′ w′ : List ℕ) (x : Encoded) (r : EncodedReply) → r ≡ encodedFields x → Promise ws t e w t′ e′ w′ x → Encodes ws t e w t′ e′ w′ r
 encodes ws t e w t′ e′ w′ x r fields p =
     record { fields = fields ∙ ap encodedFields (p .reply); lists = subst (Promise ws t e w t′ e′ w′) (p .reply) p }

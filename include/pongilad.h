@@ -1,0 +1,124 @@
+/* Pongilad: from one linear constraint to an interval-labelled diagram and the clauses that say the same to a SAT solver.
+ *
+ * Link with libpongilad.a (x86-64 Linux). Each call is proved, for every input and every length, to reply and to leave the lent
+ * lists as its definition says; the definitions are in crates/pongilad/specs. No call allocates, keeps a pointer or prints.
+ * pongilad_encode takes up to about 300 KB of stack (measured, not proved); the other calls take next to none.
+ *
+ * LISTS AND LENGTHS
+ *   A list is a pointer followed by its length. The length counts elements: 32-bit words for uint32_t, bytes for uint8_t.
+ *   Words are in the machine's own byte order.
+ *   Any length is legal, also 0 and lengths that are no multiple of 4.
+ *   The caller sees to it that
+ *     - a pointer is not null, also where the length is 0, and is aligned for its element;
+ *     - that many elements are there and are set, and may be written where the pointer is not const;
+ *     - a list that may be written shares no memory with another list of the same call;
+ *     - nothing else writes the lists while the call runs.
+ *
+ * WORDS
+ *   The top two bits of a word are its kind, the other 30 its payload.
+ *     constraint words  kind 0, the first: the payload is the bound.
+ *                       kind 1, every later one: a term. Bits 29 to 16 are the domain end d, 1 to 15; bits 15 to 0 the
+ *                       coefficient a, 1 to 65,535. There are 1 to 64 terms.
+ *                       The constraint: the sum of a times y over the terms, each y from 0 to its d, is at most the bound.
+ *     edge words        a node's number, or PONGILAD_FALSE or PONGILAD_TRUE.
+ *     clause words      kind 2, a literal: bit 29 negates it, bits 28 to 0 are the Boolean, from 1.
+ *                       kind 3 ends a clause: the payload is the number of its literals.
+ *
+ * REFUSALS, by number. Checks run in this order; 4 and 5 are tried term by term, 11, 12 and 13 word by word, the lower number
+ * first. Places count from 0.
+ *   No.  The call refuses because                                   Place                 Lent lists afterwards
+ *    1   there are no constraint words                              0                     as they were
+ *    2   the first word has another kind than 0, or a later         the first such word   as they were
+ *        one another kind than 1
+ *    3   there is no term, or there are more than 64                the number of words   as they were
+ *    4   a domain end is 0 or greater than 15                       the term's word       as they were
+ *    5   a coefficient is 0                                         the term's word       as they were
+ *    6   the diagram has more nodes than the table has room for     0                     all words of all three are 0
+ *    7   the diagram has more edges than the edge list has words    0                     all words of all three are 0
+ *    8   more clause words are needed than the clause list has      0                     all words of all three are 0
+ *    9   a Boolean would need a number above 536,870,911; within    0                     all words of all three are 0
+ *        the limits above this does not arise
+ *   10   a value byte is neither 0 nor 1                            the byte              only read
+ *   11   a clause word has kind 0 or 1                              the word              only read
+ *   12   a literal names Boolean 0 or one that has no value byte    the word              only read
+ *   13   an end word counts other than the literals before it,      the word              only read
+ *        back to the end word before or the start
+ *   14   the list stops inside a clause: literals stand behind      the list's length     only read
+ *        the last end word
+ *   1 to 9 come from pongilad_encode, 10 to 14 from pongilad_test. 6, 7 and 8 go by what the finished diagram needs.
+ */
+#ifndef PONGILAD_H
+#define PONGILAD_H
+
+#include <stddef.h>
+#include <stdint.h>
+
+#ifdef __cplusplus
+extern "C" {
+#endif
+
+#define PONGILAD_FALSE UINT32_C(0xC0000000)
+#define PONGILAD_TRUE UINT32_C(0xC0000001)
+
+/* The words of a node record. */
+#define PONGILAD_RECORD 4
+
+/* The most nodes that a table takes, however long it is. */
+#define PONGILAD_NODES 65536
+
+/* What pongilad_encode replies.
+ *   number  0: accepted; 1 to 9: the number of the refusal
+ *   place   the place of the refusal; 0 where accepted
+ *   nodes   how many node records the table holds; 0 where refused
+ *   edges   how many edge words the edge list holds; 0 where refused
+ *   words   how many clause words the clause list holds; 0 where refused */
+typedef struct {
+    uint64_t number, place, nodes, edges, words;
+} pongilad_encoded;
+
+/* What pongilad_find replies.
+ *   found   1 where there is such a record, 0 where there is none
+ *   number  the record's number, from 0; 0 where there is none */
+typedef struct {
+    uint64_t found, number;
+} pongilad_found;
+
+/* What pongilad_test replies.
+ *   verdict  0: every clause is true; 1: a clause is false; 2: refused
+ *   number   verdict 1: the number of the first false clause, from 0; verdict 2: the refusal's number, 10 to 14; otherwise 0
+ *   place    verdict 1: the place of that clause's first word; verdict 2: the refusal's place; otherwise 0 */
+typedef struct {
+    uint64_t verdict, number, place;
+} pongilad_tested;
+
+/* Encodes the constraint of the words.
+ *   table    a node record is four words: level from 1, lower end and upper end of the label, place of its first edge in the edge
+ *            list. Nodes stand by level, then by lower end; a node's number is that of its record, from 0, and node 0 is the root.
+ *            There is room for table_length / 4 nodes, rounded down, and for at most PONGILAD_NODES.
+ *   edges    the children of each node, from value 0 to d of its level's term, nodes in order.
+ *   clauses  with D the sum of all d: the order Booleans 1 to D, term by term, where Boolean (i, j), j from 1 to d, says that y of
+ *            term i is below j; D + 1 is true; D + 2 is false; D + 3 + k is node k. First the order of each term's Booleans, then
+ *            three single literals (true, not false, the root), then the edges of each node.
+ *            The length is 3 * (d - 1) for each term, 6, and 3 + 4 * d for each node of a level with domain end d.
+ * Accepted: every word behind the counts of the reply is 0, up to the end of each lent list, and a constraint that always holds
+ * has no node. Refused: see the table above. */
+pongilad_encoded pongilad_encode(const uint32_t *words, size_t words_length, uint32_t *table, size_t table_length, uint32_t *edges,
+                                 size_t edges_length, uint32_t *clauses, size_t clauses_length);
+
+/* Finds the first record of the level whose label holds the remainder: lower end <= remainder <= upper end.
+ * Words behind the last full record of four are not read. Every table is legal, also one that no encoder wrote; words of 0 behind
+ * the nodes are records of level 0 with the label 0 to 0. */
+pongilad_found pongilad_find(const uint32_t *table, size_t table_length, uint32_t level, uint32_t remainder);
+
+/* Tests the clauses under the values: byte v - 1 is the value of Boolean v, 0 or 1.
+ * All bytes and all words are checked before any clause is tested. A clause without literals is counted and passes as true. */
+pongilad_tested pongilad_test(const uint8_t *values, size_t values_length, const uint32_t *clauses, size_t clauses_length);
+
+/* 1 where the bytes are those of the words, most significant byte first, and there are just four for each word; otherwise 0. */
+uint64_t pongilad_compare(const uint8_t *bytes, size_t bytes_length, const uint32_t *words, size_t words_length);
+
+#ifdef __cplusplus
+}
+#endif
+
+#endif

@@ -1,0 +1,63 @@
+//! The calls of include/pongilad.h, for Rust.
+
+#[repr(C)]
+#[derive(Clone, Copy, Debug, PartialEq, Eq)]
+pub struct Encoded {
+    pub number: u64,
+    pub place: u64,
+    pub nodes: u64,
+    pub edges: u64,
+    pub words: u64,
+}
+
+#[repr(C)]
+#[derive(Clone, Copy, Debug, PartialEq, Eq)]
+pub struct Found {
+    pub found: u64,
+    pub number: u64,
+}
+
+#[repr(C)]
+#[derive(Clone, Copy, Debug, PartialEq, Eq)]
+pub struct Tested {
+    pub verdict: u64,
+    pub number: u64,
+    pub place: u64,
+}
+
+extern "C" {
+    fn pongilad_encode(
+        words: *const u32,
+        n: usize,
+        table: *mut u32,
+        t: usize,
+        edges: *mut u32,
+        e: usize,
+        clauses: *mut u32,
+        w: usize,
+    ) -> Encoded;
+    fn pongilad_find(table: *const u32, n: usize, level: u32, remainder: u32) -> Found;
+    fn pongilad_test(values: *const u8, v: usize, clauses: *const u32, w: usize) -> Tested;
+    fn pongilad_compare(bytes: *const u8, b: usize, words: *const u32, w: usize) -> u64;
+}
+
+/// The encoder.
+pub fn encode(words: &[u32], table: &mut [u32], edges: &mut [u32], clauses: &mut [u32]) -> Encoded {
+    let (t, e, w) = (table.len(), edges.len(), clauses.len());
+    unsafe { pongilad_encode(words.as_ptr(), words.len(), table.as_mut_ptr(), t, edges.as_mut_ptr(), e, clauses.as_mut_ptr(), w) }
+}
+
+/// The finder.
+pub fn find(table: &[u32], level: u32, remainder: u32) -> Found {
+    unsafe { pongilad_find(table.as_ptr(), table.len(), level, remainder) }
+}
+
+/// The clause tester.
+pub fn test(values: &[u8], clauses: &[u32]) -> Tested {
+    unsafe { pongilad_test(values.as_ptr(), values.len(), clauses.as_ptr(), clauses.len()) }
+}
+
+/// The file comparer.
+pub fn compare(bytes: &[u8], words: &[u32]) -> u64 {
+    unsafe { pongilad_compare(bytes.as_ptr(), bytes.len(), words.as_ptr(), words.len()) }
+}

@@ -1,0 +1,53 @@
+//! Compares the proved archive with the separately written implementation: replies and every lent word. The seed is fixed, so a difference can be met again.
+
+mod call;
+mod capacity;
+mod encoder;
+mod exercises;
+mod inputs;
+mod others;
+
+use reference::random::Random;
+
+/// The numbers that came up, with how often.
+fn numbers(tally: &[u64]) -> String {
+    let some: Vec<String> = tally.iter().enumerate().filter(|(_, n)| **n > 0).map(|(k, n)| format!("{k}: {n}")).collect();
+    some.join(", ")
+}
+
+/// A line on one kind of encoding call.
+fn report(name: &str, t: &encoder::Tally) {
+    println!("{name}: {}, calls: {} (by number, {}), most nodes: {}", t.constraints, t.calls, numbers(&t.numbers), t.nodes);
+}
+
+/// The same from number `k` on.
+fn numbers_from(tally: &[u64], k: usize) -> String {
+    let mut rest = tally.to_vec();
+    rest[..k].fill(0);
+    numbers(&rest)
+}
+
+fn main() {
+    let begin = std::time::Instant::now();
+    let mut r = Random::new(1);
+    println!("exercises P to ZZ: {}", exercises::rows(&mut r));
+    println!("limits of the words: {}", exercises::limits(&mut r));
+    println!("crowded levels: {}", exercises::crowded(&mut r));
+    println!("node capacity: {}", capacity::both_ends(&mut r));
+    report("random constraints", &encoder::valid(&mut r, 3_000));
+    report("larger constraints", &encoder::larger(&mut r, 80));
+    report("damaged constraints", &encoder::damaged(&mut r, 3_000));
+    let (finds, hits) = others::finder(&mut r, 1_000);
+    println!("finder: {finds} calls, {hits} found");
+    let tested = others::tester(&mut r, 8_000);
+    println!(
+        "clause tester: {} calls (all true {}, a clause {}, refused by number {})",
+        tested.iter().sum::<u64>(),
+        tested[0],
+        tested[1],
+        numbers_from(&tested, 2)
+    );
+    let (compared, yes) = others::comparer(&mut r, 2_000);
+    println!("file comparer: {compared} calls, {yes} yes");
+    println!("no difference, {:.1} s", begin.elapsed().as_secs_f64());
+}

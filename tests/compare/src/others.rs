@@ -1,0 +1,165 @@
+//! The finder, the clause tester and the file comparer.
+
+use crate::call::{both, differ, hex};
+use crate::inputs::constraint;
+use archive::{Found, Tested};
+use reference::random::Random;
+use reference::test::Verdict;
+use reference::{maps, sums};
+
+/// The finder on both sides; true where it finds.
+pub fn find_both(table: &[u32], level: u32, remainder: u32) -> bool {
+    let ours = archive::find(table, level, remainder);
+    let other = reference::find::find(table, level, remainder);
+    let wanted = Found { found: other.is_some() as u64, number: other.unwrap_or(0) };
+    if ours != wanted {
+        differ("the finder", format!("level {level} remainder {remainder} table {}\narchive {ours:?} reference {wanted:?}", hex(table)));
+    }
+    other.is_some()
+}
+
+/// The finder on tables of the encoder and on any words: calls and hits.
+pub fn finder(r: &mut Random, rounds: u64) -> (u64, u64) {
+    let (mut calls, mut hits) = (0, 0);
+    let mut ask = |table: &[u32], level, remainder| {
+        calls += 1;
+        hits += find_both(table, level, remainder) as u64;
+    };
+    for _ in 0..rounds {
+        let c = constraint(r);
+        let needs = sums::build(&c, 1 << 20).unwrap();
+        let room = 4 * needs.nodes.len() + r.below(9) as usize;
+        let g = both(r, maps::build, &c.words(), [room, needs.edges.len(), 70_000]);
+        for _ in 0..8 {
+            let k = 4 * r.below(room as u64 / 4 + 1) as usize;
+            let (level, near) = if k + 4 <= room { (g.table[k], g.table[k + 1 + r.below(2) as usize]) } else { (0, 0) };
+            ask(&g.table, level, near.wrapping_add(r.below(3) as u32).wrapping_sub(1));
+            ask(&g.table, level + r.below(2) as u32, near);
+        }
+        let length = r.below(40) as usize;
+        let small = r.once_in(2);
+        let any: Vec<u32> =
+            (0..length).map(|_| if small { r.below(4) as u32 } else { r.word() | (r.below(2) as u32).wrapping_neg() }).collect();
+        for _ in 0..8 {
+            ask(&any, r.below(4) as u32, r.below(5) as u32);
+        }
+        ask(&any, u32::MAX, u32::MAX);
+        ask(&any, 0, 0);
+        ask(&[], 0, 0);
+    }
+    (calls, hits)
+}
+
+/// The tester on both sides; gives the verdict, or the refusal's number.
+fn test_both(values: &[u8], list: &[u32]) -> usize {
+    let ours = archive::test(values, list);
+    let wanted = match reference::test::test(values, list) {
+        Verdict::AllTrue => Tested { verdict: 0, number: 0, place: 0 },
+        Verdict::False { clause, place } => Tested { verdict: 1, number: clause, place },
+        Verdict::Refused(x) => Tested { verdict: 2, number: x.number, place: x.place },
+    };
+    if ours != wanted {
+        differ("the clause tester", format!("values {values:?} list {}\narchive {ours:?} reference {wanted:?}", hex(list)));
+    }
+    if wanted.verdict == 2 {
+        wanted.number as usize
+    } else {
+        wanted.verdict as usize
+    }
+}
+
+/// A random clause list over `n` Booleans.
+fn list(r: &mut Random, n: u64) -> Vec<u32> {
+    let mut out = Vec::new();
+    for _ in 0..r.below(7) {
+        let literals = if n == 0 { 0 } else { r.below(5) as u32 };
+        for _ in 0..literals {
+            out.push(2 << 30 | (r.below(2) as u32) << 29 | r.from(1, n as i64) as u32);
+        }
+        out.push(3 << 30 | literals);
+    }
+    out
+}
+
+/// Changes one word or the end of the list.
+fn damage_list(r: &mut Random, words: &mut Vec<u32>, n: u64) {
+    let at = r.below(words.len() as u64 + 1) as usize;
+    let sign = (r.below(2) as u32) << 29;
+    match r.below(7) {
+        0 => words.truncate(at),
+        1 => words.insert(at, 2 << 30 | sign),
+        2 => words.insert(at, 2 << 30 | sign | (n + r.below(2)) as u32),
+        3 => words.insert(at, 3 << 30 | r.below(4) as u32),
+        4 => words.insert(at, r.word()),
+        5 => words.insert(at, *r.pick(&[0x1FFF_FFFF | 2 << 30, u32::MAX, 0, 0x7FFF_FFFF, 3 << 30])),
+        _ if at < words.len() => words[at] ^= 1 << r.below(32),
+        _ => {}
+    }
+}
+
+/// The tester on random and damaged lists and on lists of the encoder; calls by verdict 0, 1 and refusal.
+pub fn tester(r: &mut Random, rounds: u64) -> [u64; 15] {
+    let mut tally = [0; 15];
+    for _ in 0..rounds {
+        let n = r.below(9);
+        let mut values: Vec<u8> = (0..n).map(|_| r.below(2) as u8).collect();
+        let mut words = list(r, n);
+        tally[test_both(&values, &words)] += 1;
+        for _ in 0..r.from(1, 2) {
+            damage_list(r, &mut words, n);
+        }
+        tally[test_both(&values, &words)] += 1;
+        if n > 0 && r.once_in(4) {
+            let at = r.below(n) as usize;
+            values[at] = r.from(2, 255) as u8;
+            tally[test_both(&values, &words)] += 1;
+        }
+    }
+    for _ in 0..rounds / 8 {
+        let c = constraint(r);
+        let d = sums::build(&c, 1 << 20).unwrap();
+        let words = reference::clauses::clauses(&c, &d);
+        let count = c.booleans() as usize + 2 + d.nodes.len();
+        let low = r.below(2) as u8;
+        let mut values: Vec<u8> = (0..count).map(|_| if r.once_in(9) { 1 - low } else { low }).collect();
+        values[c.booleans() as usize] = 1;
+        tally[test_both(&values, &words)] += 1;
+        tally[test_both(&values[..count - 1], &words)] += 1;
+    }
+    tally
+}
+
+/// The comparer on both sides.
+fn compare_both(bytes: &[u8], words: &[u32]) -> bool {
+    let ours = archive::compare(bytes, words);
+    let wanted = reference::compare::compare(bytes, words);
+    if ours != wanted as u64 {
+        differ("the file comparer", format!("bytes {bytes:02X?} words {}\narchive {ours} reference {wanted}", hex(words)));
+    }
+    wanted
+}
+
+/// The comparer on equal and on damaged files: calls and yes replies.
+pub fn comparer(r: &mut Random, rounds: u64) -> (u64, u64) {
+    let (mut calls, mut yes) = (0, 0);
+    for _ in 0..rounds {
+        let words: Vec<u32> = (0..r.below(9)).map(|_| r.word()).collect();
+        let whole: Vec<u8> = words.iter().flat_map(|w| w.to_be_bytes()).collect();
+        let mut files = vec![whole.clone(), words.iter().flat_map(|w| w.to_le_bytes()).collect()];
+        let mut one = whole.clone();
+        if let Some(at) = (!one.is_empty()).then(|| r.below(one.len() as u64) as usize) {
+            one[at] ^= 1 << r.below(8);
+        }
+        files.push(one);
+        files.push(whole[..r.below(whole.len() as u64 + 1) as usize].to_vec());
+        let mut more = whole.clone();
+        more.extend((0..r.from(1, 5)).map(|_| 0u8));
+        files.push(more);
+        files.push(Vec::new());
+        for f in &files {
+            calls += 1;
+            yes += compare_both(f, &words) as u64;
+        }
+    }
+    (calls, yes)
+}

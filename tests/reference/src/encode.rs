@@ -1,0 +1,46 @@
+//! The encoder over lent lists.
+
+use crate::clauses::clauses;
+use crate::constraint::{read, Constraint, Refusal};
+use crate::diagram::Diagram;
+
+/// A way to build the diagram, with the most nodes that it may have.
+pub type Build = fn(&Constraint, usize) -> Option<Diagram>;
+
+/// The counts of an accepted call.
+#[derive(Clone, Copy, Debug, PartialEq, Eq)]
+pub struct Counts {
+    pub nodes: u64,
+    pub edges: u64,
+    pub words: u64,
+}
+
+/// Puts `words` first and zeros behind them.
+fn place(list: &mut [u32], words: &[u32]) {
+    list[..words.len()].copy_from_slice(words);
+    list[words.len()..].fill(0);
+}
+
+/// The whole call: the counts or the refusal, and the three lists as the paper leaves them.
+pub fn encode(build: Build, words: &[u32], table: &mut [u32], edges: &mut [u32], list: &mut [u32]) -> Result<Counts, Refusal> {
+    let c = read(words)?;
+    let made = build(&c, (table.len() / 4).min(65_536));
+    let number = match &made {
+        None => 6,
+        Some(d) if d.edges.len() > edges.len() => 7,
+        Some(_) => 8,
+    };
+    let text = made.as_ref().map(|d| if number == 7 { Vec::new() } else { clauses(&c, d) }).unwrap_or_default();
+    if number != 8 || text.len() > list.len() {
+        table.fill(0);
+        edges.fill(0);
+        list.fill(0);
+        return Err(Refusal { number, place: 0 });
+    }
+    let d = made.unwrap();
+    let flat: Vec<u32> = d.nodes.iter().flat_map(|n| [n.level as u32, n.low as u32, n.high as u32, n.first as u32]).collect();
+    place(table, &flat);
+    place(edges, &d.edges);
+    place(list, &text);
+    Ok(Counts { nodes: d.nodes.len() as u64, edges: d.edges.len() as u64, words: text.len() as u64 })
+}

@@ -1,0 +1,14 @@
+//! A second implementation of the four calls, for comparison with the proved archive. It was written from the course paper alone and shares no code with the archive:
+//! the diagram is built from sets of reachable sums (`sums`) or with an ordered map a level (`maps`), on the heap, and only then copied into the lent lists.
+
+pub mod clauses;
+pub mod compare;
+pub mod constraint;
+pub mod diagram;
+pub mod encode;
+pub mod find;
+pub mod fixed;
+pub mod maps;
+pub mod random;
+pub mod sums;
+pub mod test;
