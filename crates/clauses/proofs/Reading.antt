@@ -229,4 +229,4 @@ module _ {ls : List Level} {ns : List Node} {ds : List ℕ} {D : ℕ} {t : List 
   room out h = omega (arith, words-number)
 
   pub listed : {before after : List ℕ} {r : ℕ} → Wrote (clauseWords ls top ns) 0 before after r → Listed ls ns top before after r
-  listed {before} {after} {r} w = record { words = omega (arith, w .place, words-number); front = w .front; kept = w .kept }
+  listed {before} {after} {r} w = record { words = omega (arith, w .place, words-number); front = w .front; rest = w .rest; kept = w .kept }

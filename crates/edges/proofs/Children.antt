@@ -35,6 +35,7 @@ use Rattle.edges.specs.Row.{edgeFound, leadsTo, rowOf, rowAt, rowsOf, li
 use Rattle.edges.specs.Linked.{nodesOf, Finished, Linked}
 use Rattle.builder.proofs.Diagram.{label-ends, table-sorted}
 use Rattle.edges.proofs.Laws.{level-of, table-countable, edge-sum}
+use Rattle.edges.proofs.Turns.{Done}
 
 -- the word of what is found fits
 pub leads-fit : (xs : List Record) (level top : ℕ) (z : ℤ) → length xs ≤ 65536 → edgeWord (leadsTo xs level top z) ≤ 4294967295
@@ -141,14 +142,17 @@ module _ (cs ds rs : List ℕ) (L : Lent cs ds rs) where
       }
 
       -- THE ROWS AND THE PLACES of the records are the edge list and the node table
-      pub linked : (t′ es′ : List ℕ) → used t′ count ≡ linkedFrom ds 0 (used t count)
-          → take (count + endSum ds (used t count)) es′ ≡ rowsOf cs ds rs (used t count) (used t count) → Linked cs ds a t′ count es′
-      linked t′ es′ p q =
+      pub linked : (t′ es′ : List ℕ) → Done cs ds rs t es count t′ es′ → Linked cs ds a t count es t′ es′
+      linked t′ es′ e =
           let ns = nodesOf cs ds a in
           let xs = map (recordOf 0) ns in
           record {
-            records = p ∙ ap (linkedFrom ds 0) (done .records) ∙ linked-are ds 0 ns places;
-            edges = ap (λ (n : ℕ). take n es′) sum-is ∙ q ∙ ap (λ (ys : List Record). rowsOf cs ds rs ys ys) (done .records) ∙ rows-are cs ds rs xs ns rows;
+            records = e .places ∙ ap (linkedFrom ds 0) (done .records) ∙ linked-are ds 0 ns places;
+            edges = ap (λ (n : ℕ). take n es′) sum-is ∙ e .rows ∙ ap (λ (ys : List Record). rowsOf cs ds rs ys ys) (done .records) ∙ rows-are cs ds rs xs ns rows;
+            table-rest = e .table-rest;
+            edges-rest = subst (λ (n : ℕ). drop n es′ ≡ drop n es) (sym sum-is) (e .edges-rest);
+            table-kept = e .long;
+            edges-kept = e .wide;
           }
         where
           places : (m : ℕ) → m < length (nodesOf cs ds a) → length (nodeAt (nodesOf cs ds a) m .children) ≡ endOf ds (recordOf 0 (nodeAt (nodesOf cs ds a) m)) + 1

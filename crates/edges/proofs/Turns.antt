@@ -1,6 +1,6 @@
 -- THE TURNS OF THE LOOPS: one record more in the sum, one record and its row more in the links. A store of a fourth word changes one record's first place,
 -- which neither the order nor the finder reads. Assumes nothing.
-use mathlib.Core.Path.{_≡_, refl, sym, ap, ap₂, _∙_}
+use mathlib.Core.Path.{_≡_, refl, sym, ap, ap₂, subst, _∙_}
 use mathlib.Core.List.{List, [], _∷_, _++_, map, append-assoc, append-nil}
 use Prim.Native.Nat.{ℕ, zero, suc, _+_, _*_, _-_, _≤_, _<_}
 use native.Mathlib.Nat.{not-suc-le-zero, le-of-suc-le-suc}
@@ -8,10 +8,11 @@ use native.Mathlib.Numerals.{add-one}
 use native.Mathlib.Omega.{arith}
 use lib.IntN.{ℤ, pos, negsuc, subℕ}
 use lib.ListN.{length, getD, take, drop, set, length-set, drop-of-length-le}
-use lib.Seq.{drop-cons, append-snoc, take-all, take-suc-set, take-set-lt, drop-set-lt, map-set-same, paste, paste-suc, take-paste, length-paste}
+use lib.Seq.{drop-cons, append-snoc, take-all, take-suc-set, take-set-lt, drop-set-lt, map-set-same, paste, paste-suc, take-paste, drop-paste, length-paste}
 use borrow.Author.Tests.{le-leb, lt-leb}
 use Rattle.word.specs.Edge.{F, T, edgeWord}
 use Rattle.word.specs.Record.{Record, records}
+use Rattle.word.proofs.Kept.{rest-later}
 use Rattle.diagram.specs.Table.{row}
 use Rattle.diagram.proofs.Places.{row-at, row-length}
 use Rattle.diagram.proofs.Same.{sub-pos, sub-neg}
@@ -118,7 +119,8 @@ sum-end ds t count k room h = rw (drop-of-length-le (used t count) (past count k
 
 -- ---- The links
 
--- AFTER k RECORDS, of the entry's table t₀ and edges es₀: the rest of what is asked for stands behind what is written.
+-- AFTER k RECORDS, of the entry's table t₀ and edges es₀: the rest of what is asked for stands behind what is written. Behind the records, and from the
+-- next row's place on, all is the entry's.
 pub record Turn (cs ds rs t₀ es₀ : List ℕ) (count : ℕ) (t es : List ℕ) (first k : ℕ) : Type 0 where
   pub within : k ≤ count
   pub long : length t ≡ length t₀
@@ -128,6 +130,8 @@ pub record Turn (cs ds rs t₀ es₀ : List ℕ) (count : ℕ) (t es : List ℕ)
   pub places : linkedFrom ds 0 (used t₀ count) ≡ take k (used t count) ++ linkedFrom ds first (drop k (used t₀ count))
   pub rows : rowsOf cs ds rs (used t₀ count) (used t₀ count) ≡ take first es ++ rowsOf cs ds rs (used t₀ count) (drop k (used t₀ count))
   pub place : first + (count - k) + endSum ds (drop k (used t₀ count)) ≡ count + endSum ds (used t₀ count)
+  pub table-rest : drop (count * 4) t ≡ drop (count * 4) t₀
+  pub edges-rest : drop first es ≡ drop first es₀
 
 pub turn-start : (cs ds rs t es : List ℕ) (count : ℕ) → Turn cs ds rs t es count t es 0 0
 turn-start cs ds rs t es count = record {
@@ -139,6 +143,8 @@ turn-start cs ds rs t es count = record {
   places = refl;
   rows = refl;
   place = omega arith;
+  table-rest = refl;
+  edges-rest = refl;
 }
 
 module _ (cs ds rs t₀ es₀ : List ℕ) (count : ℕ) (t es : List ℕ) (first k : ℕ) (room : count * 4 ≤ length t₀) (so : Turn cs ds rs t₀ es₀ count t es first k) (h : k < count) where
@@ -214,6 +220,17 @@ module _ (cs ds rs t₀ es₀ : List ℕ) (count : ℕ) (t es : List ℕ) (first
         let f : first + (getD ds i 0 + 1) ≤ length es = rw i-is (row-fits w) in
         ap length paste-is ∙ length-paste es first (rowAt cs ds rs (used t′ count) i lower) (getD ds i 0 + 1) f (omega arith) ∙ so .wide
 
+    next-table-rest : drop (count * 4) t′ ≡ drop (count * 4) t₀
+    next-table-rest = ap (drop (count * 4)) set-is ∙ drop-set-lt (count * 4) t (k * 4 + 3) first (omega arith) ∙ so .table-rest
+
+    next-edges-rest : drop (first + (getD ds i 0 + 1)) es′ ≡ drop (first + (getD ds i 0 + 1)) es₀
+    next-edges-rest =
+        let n = row-long (used t′ count) (i + 2) (getD rs (i + 1) 0) (getD cs i 0) (getD ds i 0) lower in
+        let f = row-fits w in
+        ap (drop (first + (getD ds i 0 + 1))) paste-is
+        ∙ drop-paste es first (rowAt cs ds rs (used t′ count) i lower) (getD ds i 0 + 1) (omega arith) (omega arith)
+        ∙ rest-later es₀ es first (first + (getD ds i 0 + 1)) (omega arith) (so .edges-rest)
+
     -- A TURN OF THE LINKS
     pub turn-next : Turn cs ds rs t₀ es₀ count t′ es′ (first + (getD ds i 0 + 1)) (k + 1)
     turn-next = rw (add-one k) (record {
@@ -225,18 +242,33 @@ module _ (cs ds rs t₀ es₀ : List ℕ) (count : ℕ) (t es : List ℕ) (first
       places = next-places;
       rows = next-rows;
       place = next-place;
+      table-rest = next-table-rest;
+      edges-rest = next-edges-rest;
     })
 
--- AFTER ALL RECORDS what is asked for is written.
+-- AFTER ALL RECORDS what is asked for is written, and behind it all is the entry's.
+pub record Done (cs ds rs t₀ es₀ : List ℕ) (count : ℕ) (t es : List ℕ) : Type 0 where
+  pub places : used t count ≡ linkedFrom ds 0 (used t₀ count)
+  pub rows : take (count + endSum ds (used t₀ count)) es ≡ rowsOf cs ds rs (used t₀ count) (used t₀ count)
+  pub table-rest : drop (count * 4) t ≡ drop (count * 4) t₀
+  pub edges-rest : drop (count + endSum ds (used t₀ count)) es ≡ drop (count + endSum ds (used t₀ count)) es₀
+  pub long : length t ≡ length t₀
+  pub wide : length es ≡ length es₀
+
 pub turn-end : (cs ds rs t₀ es₀ : List ℕ) (count : ℕ) (t es : List ℕ) (first k : ℕ) → count * 4 ≤ length t₀ → Turn cs ds rs t₀ es₀ count t es first k → count ≤ k
-    → (used t count ≡ linkedFrom ds 0 (used t₀ count))
-    × (take (count + endSum ds (used t₀ count)) es ≡ rowsOf cs ds rs (used t₀ count) (used t₀ count))
+    → Done cs ds rs t₀ es₀ count t es
 unfolding linkedFrom rowsOf endSum
 turn-end cs ds rs t₀ es₀ count t es first k room so h =
     let past : length (used t₀ count) ≤ k = omega (arith, used-length t₀ count room) in
     let none : drop k (used t₀ count) ≡ [] = drop-of-length-le (used t₀ count) past in
     let all : take k (used t count) ≡ used t count = take-all k (used t count) (omega (arith, used-length t count (omega (arith, so .long)))) in
-    let f : first ≡ count + endSum ds (used t₀ count) = omega (arith, so .place, ap (endSum ds) none, so .within) in (
-      sym (so .places ∙ ap₂ (λ (xs ys : List Record). xs ++ linkedFrom ds first ys) all none ∙ append-nil (used t count)),
-      sym (so .rows ∙ ap₂ (λ (n : ℕ) (ys : List Record). take n es ++ rowsOf cs ds rs (used t₀ count) ys) f none ∙ append-nil (take (count + endSum ds (used t₀ count)) es)),
-    )
+    let f : first ≡ count + endSum ds (used t₀ count) = omega (arith, so .place, ap (endSum ds) none, so .within) in
+    record {
+      places = sym (so .places ∙ ap₂ (λ (xs ys : List Record). xs ++ linkedFrom ds first ys) all none ∙ append-nil (used t count));
+      rows =
+          sym (so .rows ∙ ap₂ (λ (n : ℕ) (ys : List Record). take n es ++ rowsOf cs ds rs (used t₀ count) ys) f none ∙ append-nil (take (count + endSum ds (used t₀ count)) es));
+      table-rest = so .table-rest;
+      edges-rest = subst (λ (n : ℕ). drop n es ≡ drop n es₀) f (so .edges-rest);
+      long = so .long;
+      wide = so .wide;
+    }

@@ -4,7 +4,7 @@ use mathlib.Core.Path.{_≡_}
 use mathlib.Core.List.{List, map}
 use Prim.Native.Nat.{ℕ, _*_, _≤_}
 use lib.IntN.{pos}
-use lib.ListN.{length, take}
+use lib.ListN.{length, take, drop}
 use Rattle.diagram.specs.Table.{Node, table}
 use Rattle.diagram.specs.Flat.{recordOf, recordsFrom, edgeWords, edgeCount}
 use Rattle.table.specs.Order.{used}
@@ -21,7 +21,12 @@ pub record Finished (cs ds : List ℕ) (a : ℕ) (t : List ℕ) (count : ℕ) (e
   pub records : used t count ≡ map (recordOf 0) (nodesOf cs ds a)
   pub wide : edgeCount (levelsOf cs ds) (nodesOf cs ds a) ≤ length es
 
--- The records have their places, and the edge list stands at the front of the edges.
-pub record Linked (cs ds : List ℕ) (a : ℕ) (t : List ℕ) (count : ℕ) (es : List ℕ) : Type 0 where
-  pub records : used t count ≡ recordsFrom 0 (nodesOf cs ds a)
-  pub edges : take (edgeCount (levelsOf cs ds) (nodesOf cs ds a)) es ≡ edgeWords (nodesOf cs ds a)
+-- The table t and the edges es have become t′ and es′: the records have their places, and the edge list stands at the front of the edges. Behind the records
+-- and behind the edge list all words are as they were, and both lists are as long as before, so each word of them is told.
+pub record Linked (cs ds : List ℕ) (a : ℕ) (t : List ℕ) (count : ℕ) (es t′ es′ : List ℕ) : Type 0 where
+  pub records : used t′ count ≡ recordsFrom 0 (nodesOf cs ds a)
+  pub edges : take (edgeCount (levelsOf cs ds) (nodesOf cs ds a)) es′ ≡ edgeWords (nodesOf cs ds a)
+  pub table-rest : drop (count * 4) t′ ≡ drop (count * 4) t
+  pub edges-rest : drop (edgeCount (levelsOf cs ds) (nodesOf cs ds a)) es′ ≡ drop (edgeCount (levelsOf cs ds) (nodesOf cs ds a)) es
+  pub table-kept : length t′ ≡ length t
+  pub edges-kept : length es′ ≡ length es

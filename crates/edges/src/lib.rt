@@ -88,8 +88,7 @@ pub fn link<'a>(
     requires { ⌜ Lent (now coefs) (now ends) (now rests) ⌝ }
     requires { ⌜ ((a : ℕ) × Finished (now coefs) (now ends) a (now table) count (now edges)) ⌝ }
     ensures { λ _. ⌜ ((a : ℕ) → Finished (now (coefs .entry)) (now (ends .entry)) a (now (table .entry)) count (now (edges .entry))
-        → Linked (now (coefs .entry)) (now (ends .entry)) a (now (table .exit)) count (now (edges .exit))) ⌝ }
-    ensures { λ _. ⌜ (length (now (table .exit)) ≡ length (now (table .entry))) × (length (now (edges .exit)) ≡ length (now (edges .entry))) ⌝ }
+        → Linked (now (coefs .entry)) (now (ends .entry)) a (now (table .entry)) count (now (edges .entry)) (now (table .exit)) (now (edges .exit))) ⌝ }
 {
     let mut first: usize = 0;
     let mut k = 0;

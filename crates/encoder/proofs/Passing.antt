@@ -62,24 +62,24 @@ module _ (cs ds rs : List ℕ) (L : Lent cs ds rs) (a : ℕ) where
     finished n es ws M = record { few = B .few; room = B .room; records = B .records; wide = M .wide }
 
     -- to the clauses
-    pub drawing : (t′ es : List ℕ) → Linked cs ds a t′ count es → Drawing ls ns ds D t′ count es e
-    drawing t′ es K =
-        subst (Drawing ls ns ds D t′ count es) (sym (B .root))
+    pub drawing : (es t′ es′ : List ℕ) → Linked cs ds a t count es t′ es′ → Drawing ls ns ds D t′ count es′ e
+    drawing es t′ es′ K =
+        subst (Drawing ls ns ds D t′ count es′) (sym (B .root))
         (right-drawing R (doms cs ds (L .ends)) (B .booleans) (omega (arith, B .booleans, B .few, orders-small)) (K .records) (B .counted)
-        (ap (λ (k : ℕ). take k es) edges-length ∙ K .edges))
+        (ap (λ (k : ℕ). take k es′) edges-length ∙ K .edges))
 
-    pub drawn : (n : Counts) (t′ es es′ ws : List ℕ) → Roomy (constraintOf cs ds a) n es ws → Linked cs ds a t′ count es′ → Drawn ds D t′ count es′ e (length ws)
-    drawn n t′ es es′ ws M K = record { ls = ls; ns = ns; drawing = drawing t′ es′ K; fits = M .long }
+    pub drawn : (n : Counts) (es ws t′ es′ : List ℕ) → Roomy (constraintOf cs ds a) n es ws → Linked cs ds a t count es t′ es′ → Drawn ds D t′ count es′ e (length ws)
+    drawn n es ws t′ es′ M K = record { ls = ls; ns = ns; drawing = drawing es t′ es′ K; fits = M .long }
 
     -- to the result
-    pub filled : (n : Counts) (es ws t′ es′ ws′ t″ es″ ws″ : List ℕ) (r : ℕ) → count ≡ n .nodes → Roomy (constraintOf cs ds a) n es ws → Linked cs ds a t′ count es′ → Listed ls ns e ws ws′ r
-        → length t′ ≡ length t → length es′ ≡ length es
+    pub filled : (n : Counts) (es ws t′ es′ ws′ t″ es″ ws″ : List ℕ) (r : ℕ) → count ≡ n .nodes → Roomy (constraintOf cs ds a) n es ws → Linked cs ds a t count es t′ es′
+        → Listed ls ns e ws ws′ r
         → t″ ≡ cleared (count * 4) t′ → es″ ≡ cleared (n .edges) es′ → ws″ ≡ cleared (n .words) ws′
         → Filled (constraintOf cs ds a) t es ws t″ es″ ws″
-    filled n es ws t′ es′ ws′ t″ es″ ws″ r q M K W lt le p₁ p₂ p₃ =
+    filled n es ws t′ es′ ws′ t″ es″ ws″ r q M K W p₁ p₂ p₃ =
         record {
-          table = p₁ ∙ cleared-padded t′ (tableWords ns) (length t) (count * 4) (used-words t′ count (let h = B .room in omega arith) ∙ ap flat (K .records)) table-long lt;
-          edges = p₂ ∙ cleared-padded es′ (edgeWords ns) (length es) (n .edges) (ap (λ (k : ℕ). take k es′) (M .edges) ∙ K .edges) (edges-length ∙ sym (M .edges)) le;
+          table = p₁ ∙ cleared-padded t′ (tableWords ns) (length t) (count * 4) (used-words t′ count (let h = B .room in omega arith) ∙ ap flat (K .records)) table-long (K .table-kept);
+          edges = p₂ ∙ cleared-padded es′ (edgeWords ns) (length es) (n .edges) (ap (λ (k : ℕ). take k es′) (M .edges) ∙ K .edges) (edges-length ∙ sym (M .edges)) (K .edges-kept);
           clauses = p₃ ∙ cleared-padded ws′ (clauseWords ls top ns) (length ws) (n .words) words-front (words-length ∙ sym (M .words)) (W .kept);
         }
       where

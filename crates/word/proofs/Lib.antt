@@ -1,2 +1,3 @@
 -- Laws of lent memory that other crates' proofs cite.
 pub mod Cleared
+pub mod Kept

@@ -132,10 +132,8 @@ returns c =
     let l = c .before .loop in
     let r = ready (a .coefs .now) (a .ends .now) (a .rests .now) (s .pre .0) (s .pre .1 .0) (a .table .now) (a .count) (a .edges .now) (s .pre .1 .1) in
     let e = turn-end (a .coefs .now) (a .ends .now) (a .rests .now) (a .table .now) (a .edges .now) (a .count) (l .table) (l .edges) (l .first) (l .k)
-    (r .countable .room) (l .inv) (c .loop-test .left) in (
-      (λ b done. linked (a .coefs .now) (a .ends .now) (a .rests .now) (s .pre .0) b (a .table .now) (a .count) (a .edges .now) done (l .table) (l .edges) (e .0) (e .1)),
-      (l .inv .long, l .inv .wide),
-    )
+    (r .countable .room) (l .inv) (c .loop-test .left) in
+    λ b done. linked (a .coefs .now) (a .ends .now) (a .rests .now) (s .pre .0) b (a .table .now) (a .count) (a .edges .now) done (l .table) (l .edges) e
 
 pub link-spec : {M : Type 1} → statement M
 link-spec =

@@ -1,0 +1,283 @@
+-- NO TEXT IS LONGER than 131,072 bytes with the program's room: numbers have at most 8 digits, children at most 10, and a line 36 bytes besides its children.
+-- Assumes nothing.
+use mathlib.Core.Path.{_≡_, refl, sym, ap, ap₂, _∙_}
+use mathlib.Core.List.{List, [], _∷_, _++_, map}
+use mathlib.Core.Bool.{Bool, true, false, cond}
+use Prim.Native.Nat.{ℕ, zero, suc, _+_, _*_, _/_, _%_, _≤_, _<_}
+use native.Mathlib.Omega.{arith}
+use lib.Dec.{ltb, leb, eqb}
+use lib.ListN.{length, getD, take, drop, length-append, length-map}
+use lib.Seq.{take-all}
+use borrow.Author.Tests.{ltb-true, ltb-false}
+use Rattle.word.specs.Word.{kind, domainEnd, coefficient, lastBoolean}
+use Rattle.word.specs.Edge.{Edge, F, T, to, edgeWord}
+use Rattle.refusal.specs.Table.{numberOf, placeOf, andThen, unless}
+use Rattle.refusal.specs.declared.Refusal.{Refusal}
+use Rattle.refusal.specs.declared.Refusal.the-variants.{NoWords, WrongKind, TermCount, DomainEnd, ZeroCoefficient, TooManyNodes, TooManyEdges, TooManyWords, TooManyBooleans, ValueByte, ClauseWord, UnknownBoolean, LiteralCount, OpenClause}
+use Rattle.refusal.specs.declared.Checked.{Checked}
+use Rattle.refusal.specs.declared.Checked.the-variants as check
+use Rattle.diagram.specs.Table.{Node}
+use Rattle.diagram.specs.Claim.{nodeAt}
+use Rattle.diagram.specs.Flat.{edgeWords, edgeCount}
+use Rattle.diagram.specs.Constraint.{Constraint, Within}
+use Rattle.diagram.proofs.Terms.{levels-ascend}
+use Rattle.diagram.proofs.Drawn.{table-right}
+use Rattle.diagram.proofs.Written.{Small}
+use Rattle.encoding.specs.Boolean.{orders}
+use Rattle.encoding.specs.Pattern.{wordCount}
+use Rattle.encoding.proofs.Fits.{own-level}
+use Rattle.builder.proofs.Diagram.{label-ends}
+use Rattle.constraint.specs.Reading.{eachFrom, kindChecked, termChecked, countChecked, upTo, checked, stated}
+use Rattle.constraint.proofs.Laws.{checked-within, rest-fits, length-levels}
+use Rattle.encoder.specs.declared.Counts.{Counts}
+use Rattle.encoder.specs.declared.Encoded.{Encoded}
+use Rattle.encoder.specs.declared.Encoded.the-variants.{Accepted, Refused}
+use Rattle.encoder.specs.Encoded.{levelsIn, nodesFor, rootFor, capacity, refuseIf, unlessRefused, counted, encoded}
+use Rattle.encoder.proofs.Meant.{plain, edges-length}
+use Rattle.encoder.proofs.Answers.{countsOf}
+use Rattle.printout.specs.Text.{decimal, child, children, nodeLine, nodeLines, countsLine, refusalLine, nodesWord, edgesWord, wordsWord, refusedWord, atWord, newline, field, tooLong, badLength}
+use Rattle.printout.specs.Shown.{wordsIn, replyText, wordsText, shownIn, shown, Shows, Whole}
+use Rattle.printout.proofs.Cuts.{printed-inside, printed-count}
+use Rattle.printout.proofs.Turns.{decimal-one, decimal-more}
+use Rattle.printout.proofs.Input.{words-length}
+
+-- ---- Decimals
+
+abbrev tens : ℕ → ℕ
+tens zero = 1
+tens (suc d) = 10 * tens d
+
+digits-few : (d n : ℕ) → n < tens (suc d) → length (decimal n) ≤ suc d
+digits-few zero n h = omega (arith, ap length (decimal-one n (omega arith)))
+digits-few (suc d) n h = go (ltb n 10) refl (λ m k. digits-few d m k)
+  where
+    go : (b : Bool) → ltb n 10 ≡ b → ((m : ℕ) → m < tens (suc d) → length (decimal m) ≤ suc d) → length (decimal n) ≤ suc (suc d)
+    go true e f = let l = ltb-true n 10 e in omega (arith, ap length (decimal-one n l))
+    go false e f =
+        let l = ltb-false n 10 e in
+        omega (arith, ap length (decimal-more n l), length-append (decimal (n / 10)) ((48 + n % 10) ∷ []), f (n / 10) (omega arith))
+
+eight : (n : ℕ) → n < 100000000 → length (decimal n) ≤ 8
+eight n h = digits-few 7 n h
+
+-- ---- Lines
+
+child-few : (e : Edge) → Small e → length (child e) ≤ 10
+child-few F s = omega arith
+child-few T s = omega arith
+child-few (to k) s = digits-few 9 k (le k s)
+  where
+    le : (k : ℕ) → k < 0xC0000000 → k < 10000000000
+    le k s = omega arith
+
+children-few : (es : List Edge) → ((j : ℕ) → j < length es → Small (getD es j F)) → length (children es) ≤ 11 * length es
+unfolding children
+children-few [] s = omega arith
+children-few (e ∷ es) s =
+    omega (arith, length-append (32 ∷ child e) (children es), child-few e (s 0 (omega arith)), children-few es (λ j h. s (suc j) (omega arith)))
+
+-- what makes a node's line short
+record Short (x : Node) : Type 0 where
+  level : x .level < 100000000
+  lower : x .lab .lower < 100000000
+  upper : x .lab .upper < 100000000
+  small : (j : ℕ) → j < length (x .children) → Small (getD (x .children) j F)
+
+length-six : (a b c d e f : List ℕ) → length (a ++ b ++ c ++ d ++ e ++ f) ≡ length a + length b + length c + length d + length e + length f
+length-six a b c d e f =
+    omega (
+      arith,
+      length-append (a ++ b ++ c ++ d ++ e) f,
+      length-append (a ++ b ++ c ++ d) e,
+      length-append (a ++ b ++ c) d,
+      length-append (a ++ b) c,
+      length-append a b,
+    )
+
+line-few : (k : ℕ) (x : Node) → k < 100000000 → Short x → length (nodeLine k x) ≤ 36 + 11 * length (x .children)
+line-few k x h s =
+    omega (
+      arith,
+      length-six (decimal k) (field (x .level)) (field (x .lab .lower)) (field (x .lab .upper)) (children (x .children)) newline,
+      eight k h,
+      eight (x .level) (s .level),
+      eight (x .lab .lower) (s .lower),
+      eight (x .lab .upper) (s .upper),
+      children-few (x .children) (s .small),
+    )
+
+lines-few : (k : ℕ) (ns : List Node) → k + length ns ≤ 100000000 → ((m : ℕ) → m < length ns → Short (nodeAt ns m))
+    → length (nodeLines k ns) ≤ 36 * length ns + 11 * length (edgeWords ns)
+unfolding nodeLines edgeWords
+lines-few k [] h s = omega arith
+lines-few k (x ∷ xs) h s =
+    omega (
+      arith,
+      length-append (nodeLine k x) (nodeLines (suc k) xs),
+      length-append (map edgeWord (x .children)) (edgeWords xs),
+      length-map (x .children) edgeWord,
+      line-few k x (omega arith) (s 0 (omega arith)),
+      lines-few (suc k) xs (omega arith) (λ m l. s (suc m) (omega arith)),
+    )
+
+counts-few : (n : Counts) → n .nodes < 100000000 → n .edges < 100000000 → n .words < 100000000 → length (countsLine n) ≤ 45
+counts-few n h k l =
+    omega (
+      arith,
+      length-append (nodesWord ++ decimal (n .nodes) ++ edgesWord ++ decimal (n .edges) ++ wordsWord ++ decimal (n .words)) newline,
+      length-six nodesWord (decimal (n .nodes)) edgesWord (decimal (n .edges)) wordsWord (decimal (n .words)),
+      eight (n .nodes) h,
+      eight (n .edges) k,
+      eight (n .words) l,
+    )
+
+number-few : (x : Refusal) → numberOf x ≤ 14
+number-few NoWords = omega arith
+number-few (WrongKind at) = omega arith
+number-few (TermCount at) = omega arith
+number-few (DomainEnd at) = omega arith
+number-few (ZeroCoefficient at) = omega arith
+number-few TooManyNodes = omega arith
+number-few TooManyEdges = omega arith
+number-few TooManyWords = omega arith
+number-few TooManyBooleans = omega arith
+number-few (ValueByte at) = omega arith
+number-few (ClauseWord at) = omega arith
+number-few (UnknownBoolean at) = omega arith
+number-few (LiteralCount at) = omega arith
+number-few (OpenClause at) = omega arith
+
+refusal-few : (x : Refusal) → placeOf x < 100000000 → length (refusalLine x) ≤ 29
+refusal-few x h =
+    omega (
+      arith,
+      length-six refusedWord (decimal (numberOf x)) atWord (decimal (placeOf x)) newline [],
+      length-append (refusedWord ++ decimal (numberOf x) ++ atWord ++ decimal (placeOf x) ++ newline) [],
+      eight (numberOf x) (omega (arith, number-few x)),
+      eight (placeOf x) h,
+    )
+
+-- ---- Places
+
+-- a refusal's place is at most n
+abbrev At : ℕ → Checked → Type 0
+At n check.Passed = Unit {0}
+At n (check.Refused x) = placeOf x ≤ n
+
+at-then : (n : ℕ) (p q : Checked) → At n p → At n q → At n (andThen p q)
+at-then n check.Passed q h k = k
+at-then n (check.Refused x) q h k = h
+
+at-unless : (n : ℕ) (b : Bool) (x : Refusal) → placeOf x ≤ n → At n (unless b x)
+at-unless n true x h = tt
+at-unless n false x h = h
+
+at-each : (f : ℕ → ℕ → Checked) (n i : ℕ) (ws : List ℕ) → ((j w : ℕ) → j ≤ n → At n (f j w)) → i + length ws ≤ n → At n (eachFrom f i ws)
+unfolding eachFrom
+at-each f n i [] each h = tt
+at-each f n i (w ∷ ws) each h = at-then n (f i w) (eachFrom f (suc i) ws) (each i w (omega arith)) (at-each f n (suc i) ws each (omega arith))
+
+at-kind : (n j w : ℕ) → j ≤ n → At n (kindChecked j w)
+at-kind n j w h = at-unless n (eqb (kind w) 1) (WrongKind j) h
+
+at-term : (n j w : ℕ) → j ≤ n → At n (termChecked j w)
+at-term n j w h =
+    at-then n (unless (upTo 15 (domainEnd w)) (DomainEnd j)) (unless (leb 1 (coefficient w)) (ZeroCoefficient j))
+    (at-unless n (upTo 15 (domainEnd w)) (DomainEnd j) h) (at-unless n (leb 1 (coefficient w)) (ZeroCoefficient j) h)
+
+at-checked : (ws : List ℕ) → At (length ws) (checked ws)
+unfolding checked
+at-checked [] = omega arith
+at-checked (w ∷ ws) =
+    let n : ℕ = suc (length ws) in
+    let terms : At n (eachFrom termChecked 1 ws) = at-each termChecked n 1 ws (at-term n) (omega arith) in
+    let kinds : At n (eachFrom kindChecked 1 ws) = at-each kindChecked n 1 ws (at-kind n) (omega arith) in
+    at-then n (unless (eqb (kind w) 0) (WrongKind 0)) (andThen (eachFrom kindChecked 1 ws) (andThen (countChecked (length ws)) (eachFrom termChecked 1 ws)))
+    (at-unless n (eqb (kind w) 0) (WrongKind 0) (omega arith))
+    (at-then n (eachFrom kindChecked 1 ws) (andThen (countChecked (length ws)) (eachFrom termChecked 1 ws)) kinds
+    (at-then n (countChecked (length ws)) (eachFrom termChecked 1 ws) (at-unless n (upTo 64 (length ws)) (TermCount n) (omega arith)) terms))
+
+-- ---- The reply
+
+-- an accepted reply's counts are the diagram's, and find room; a refusal's place is at most n
+abbrev Sized : Constraint → ℕ → ℕ → ℕ → ℕ → Encoded → Type 0
+Sized c n t e w (Accepted m) = (m ≡ countsOf c) × (length (nodesFor c) ≤ capacity t) × (edgeCount (levelsIn c) (nodesFor c) ≤ e) × (wordCount (levelsIn c) (nodesFor c) ≤ w)
+Sized c n t e w (Refused x) = placeOf x ≤ n
+
+sized-counted : (c : Constraint) (n t e w : ℕ) → Sized c n t e w (counted c t e w)
+unfolding counted
+sized-counted c n t e w = go (ltb (capacity t) (length (nodesFor c))) refl (ltb e (edgeCount (levelsIn c) (nodesFor c))) refl (ltb w (wordCount (levelsIn c) (nodesFor c))) refl
+    (ltb lastBoolean (orders (levelsIn c) + 2 + length (nodesFor c)))
+  where
+    go : (p : Bool) → ltb (capacity t) (length (nodesFor c)) ≡ p → (q : Bool) → ltb e (edgeCount (levelsIn c) (nodesFor c)) ≡ q
+        → (r : Bool) → ltb w (wordCount (levelsIn c) (nodesFor c)) ≡ r → (s : Bool)
+        → Sized c n t e w (refuseIf p TooManyNodes (refuseIf q TooManyEdges (refuseIf r TooManyWords (refuseIf s TooManyBooleans (Accepted (countsOf c))))))
+    go true f q g r h s = omega arith
+    go false f true g r h s = omega arith
+    go false f false g true h s = omega arith
+    go false f false g false h true = omega arith
+    go false f false g false h false =
+        (refl, ltb-false (capacity t) (length (nodesFor c)) f, ltb-false e (edgeCount (levelsIn c) (nodesFor c)) g, ltb-false w (wordCount (levelsIn c) (nodesFor c)) h)
+
+-- ---- The nodes
+
+nodes-short : (c : Constraint) → Within c → length (nodesFor c) ≤ 65536 → (m : ℕ) → m < length (nodesFor c) → Short (nodeAt (nodesFor c) m)
+nodes-short c within few m h =
+    let l = own-level (levelsIn c) (c .bound) (nodesFor c) (rootFor c) (table-right (levelsIn c) (c .bound) (levels-ascend (c .terms))) m h in
+    let b = label-ends (levelsIn c) (levels-ascend (c .terms)) (c .bound) m (l .0) (l .2) in
+    let r = rest-fits c within (l .0) in
+    record {
+      level = omega (arith, l .2 .1, l .1, length-levels (c .terms), within .few);
+      lower = omega (arith, b .0, b .1, r);
+      upper = omega (arith, b .1, r);
+      small = plain c within few m h .numbers;
+    }
+
+-- ---- The text
+
+words-fit : (ws : List ℕ) → length ws ≤ 66 → length (wordsText ws 4096 8192 16384) ≤ 131072
+unfolding encoded
+words-fit ws h = go (checked ws) refl (at-checked ws)
+  where
+    reply : (r : Encoded) → checked ws ≡ check.Passed → Sized (stated ws) 66 4096 8192 16384 r → length (replyText r (nodesFor (stated ws))) ≤ 131072
+    reply (Refused x) p s = omega (arith, refusal-few x (omega arith))
+    reply (Accepted m) p s =
+        let c : Constraint = stated ws in
+        let within : Within c = checked-within ws p in
+        let few : length (nodesFor c) ≤ 1024 = omega (arith, s .1) in
+        let wide : length (nodesFor c) ≤ 65536 = omega arith in
+        let n = s .0 in
+        omega (
+          arith,
+          length-append (countsLine m) (nodeLines 0 (nodesFor c)),
+          counts-few m (omega (arith, ap (λ (k : Counts). k .nodes) n)) (omega (arith, ap (λ (k : Counts). k .edges) n, s .2)) (omega (arith, ap (λ (k : Counts). k .words) n, s .3)),
+          lines-few 0 (nodesFor c) (omega arith) (nodes-short c within wide),
+          edges-length c within wide,
+          s .2,
+        )
+
+    go : (k : Checked) → checked ws ≡ k → At (length ws) k → length (replyText (unlessRefused k (counted (stated ws) 4096 8192 16384)) (nodesFor (stated ws))) ≤ 131072
+    go check.Passed e a = reply (counted (stated ws) 4096 8192 16384) e (sized-counted (stated ws) 66 4096 8192 16384)
+    go (check.Refused x) e a = omega (arith, refusal-few x (omega arith))
+
+-- THE BOUND
+pub shown-fits : (bs : List ℕ) → length (shown bs) ≤ 131072
+unfolding shownIn
+shown-fits bs = go (ltb 264 (length bs)) refl (eqb (length bs % 4) 0)
+  where
+    go : (p : Bool) → ltb 264 (length bs) ≡ p → (q : Bool) → length (cond p tooLong (cond q (wordsText (wordsIn bs) 4096 8192 16384) badLength)) ≤ 131072
+    go true e q = omega arith
+    go false e true = let l = ltb-false 264 (length bs) e in words-fit (wordsIn bs) (omega (arith, words-length bs))
+    go false e false = omega arith
+
+-- what is printed into that many bytes with that room is the whole text
+pub printed-whole : (bs t e w first t′ e′ w′ out : List ℕ) (r : ℕ) → length t ≡ 4096 → length e ≡ 8192 → length w ≡ 16384 → length first ≡ 131072
+    → Shows bs t e w first t′ e′ w′ out r
+    → Whole bs t e w first t′ e′ w′ out r × ((r ≤ length out) × (r ≡ length (take r out)))
+printed-whole bs t e w first t′ e′ w′ out r a b c n s =
+    let p = s .text in
+    let q : take (length first) (shownIn bs (length t) (length e) (length w)) ≡ shown bs =
+    (λ i. take (length first) (shownIn bs (a i) (b i) (c i))) ∙ take-all (length first) (shown bs) (omega (arith, shown-fits bs)) in (
+      record { shows = s; reply = p .reply ∙ ap length q; text = p .list ∙ ap₂ (λ (x : List ℕ) (k : ℕ). x ++ drop k first) q (sym (p .reply)) },
+      (printed-inside p, printed-count p),
+    )

@@ -1,0 +1,5 @@
+pub mod Cut
+pub mod Text
+pub mod Shown
+pub mod Lying
+pub mod Exercise

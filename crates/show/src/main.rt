@@ -1,0 +1,23 @@
+// Reads the bytes of a constraint's words from standard input, and prints its diagram.
+use libc::STDIN_FILENO;
+use libc::STDOUT_FILENO;
+
+// One byte more than a constraint's words have at most tells that the input is too long.
+const READ: usize = 265;
+
+fn main() {
+    let mut input = [0u8; READ];
+    let got = io::read_full(STDIN_FILENO, &mut input);
+    let mut table = [0u32; printout::TABLE];
+    let mut edges = [0u32; printout::EDGES];
+    let mut clauses = [0u32; printout::CLAUSES];
+    let mut out = [0u8; printout::TEXT];
+    let n = printout::show(
+        &input[..got],
+        &mut table,
+        &mut edges,
+        &mut clauses,
+        &mut out,
+    );
+    io::write_all(STDOUT_FILENO, &out[..n]);
+}
