@@ -21,13 +21,16 @@ const BYTES: usize = 264;
 // The words of that many bytes.
 const WORDS: usize = 66;
 
-// The program's room: 1,024 nodes of four words, 8,192 edges and 16,384 clause words; and more bytes than any text has.
+// The program's table: 1,024 nodes of four words.
 pub const TABLE: usize = 4096;
 
+// The program's edge list.
 pub const EDGES: usize = 8192;
 
+// The program's clause buffer.
 pub const CLAUSES: usize = 16384;
 
+// The program's buffer for its text, which is shorter in every case.
 pub const TEXT: usize = 131072;
 
 // The word of four bytes, most significant first.

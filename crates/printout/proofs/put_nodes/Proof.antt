@@ -81,13 +81,6 @@ shared-slice-read-put-node-3 c =
     let turn = c .before .before .before .before .before .before .before in
     omega (arith, turn .before .before .before .before .pre .1 .room)
 
-mul-put-node-4 : tie.Need-mul-put-node-4 Inv-nodes μ-nodes
-mul-put-node-4 c =
-    let turn = c .before .before .before .before .before .before .before in
-    let l = turn .before .before .before .before .pre .1 in
-    let w = places l (turn .nodes .k) _ _ (omega arith) (c .before .before .before .before .before .first-edge .ensures _ _ l) (c .before .before .before .before .first-edge2 .ensures _ _ l) in
-    omega (arith, w .0, w .1)
-
 sub-put-node : tie.Need-sub-put-node Inv-nodes μ-nodes
 sub-put-node c =
     let turn = c .before .before .before .before .before .before .before in
@@ -96,11 +89,7 @@ sub-put-node c =
     w .0
 
 part-put-node-start : tie.Need-part-put-node-start Inv-nodes μ-nodes
-part-put-node-start c =
-    let turn = c .before .before .before .before .before .before .before in
-    let l = turn .before .before .before .before .pre .1 in
-    let w = places l (turn .nodes .k) _ _ (omega arith) (c .before .before .before .before .before .first-edge .ensures _ _ l) (c .before .before .before .before .first-edge2 .ensures _ _ l) in
-    w .0
+part-put-node-start c = sub-put-node c
 
 part-put-node-end : tie.Need-part-put-node-end Inv-nodes μ-nodes
 part-put-node-end c =
@@ -108,6 +97,9 @@ part-put-node-end c =
     let l = turn .before .before .before .before .pre .1 in
     let w = places l (turn .nodes .k) _ _ (omega arith) (c .before .before .before .before .before .first-edge .ensures _ _ l) (c .before .before .before .before .first-edge2 .ensures _ _ l) in
     w .1
+
+mul-put-node-4 : tie.Need-mul-put-node-4 Inv-nodes μ-nodes
+mul-put-node-4 c = omega (arith, sub-put-node c, part-put-node-end c)
 
 put-node-requires : tie.Need-put-node-requires Inv-nodes μ-nodes
 put-node-requires c κs = search needs
