@@ -18,7 +18,7 @@ pub struct Ends {
     pub upper: u32,
 }
 
-// Where a child leads: to F, whose label moved up ends at a number; to T, whose label moved up starts at one; or on, and its label is moved up by one.
+// Where a child leads: to F, whose label moved up ends at a number; to T, whose label moved up starts at one; or on to a remainder, whose label is moved up by a number.
 pub enum Branch {
     False(u32),
     True(u32),

@@ -10,7 +10,7 @@ fn word_of(a: u8, b: u8, c: u8, d: u8) -> u32
     a as u32 * 0x1000000 + b as u32 * 0x10000 + c as u32 * 0x100 + d as u32
 }
 
-// Whether the bytes are the words, most significant byte first, with none left over.
+// Whether the words, each as its four bytes from the highest down, are these bytes and no more.
 pub fn compare(bytes: &[u8], words: &[u32]) -> bool
     ensures { λ r. ⌜ r ≡ sameBytes (now (bytes .entry)) (now (words .entry)) ⌝ }
 {

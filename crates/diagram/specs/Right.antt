@@ -1,5 +1,6 @@
--- RIGHT DRAWINGS, after document 01's section on them, over levels, a bound, nodes with their children, and a root: what the clauses of a drawing need.
--- Every whole table is one. Assumes nothing.
+-- RIGHT DRAWINGS, over levels, a bound, nodes with their children, and a root: of document 01's section on them, what the clauses of a drawing need. Two
+-- rules of that section are not here, as no clause needs them: that record 0 is the root, and the limit on the number of records. Every whole table is one.
+-- Assumes nothing.
 use mathlib.Core.Path.{_≡_}
 use mathlib.Core.List.{List}
 use Prim.Native.Nat.{ℕ, suc, _≤_, _<_}

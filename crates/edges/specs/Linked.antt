@@ -5,6 +5,7 @@ use mathlib.Core.List.{List, map}
 use Prim.Native.Nat.{ℕ, _*_, _≤_}
 use lib.IntN.{pos}
 use lib.ListN.{length, take, drop}
+use Rattle.word.specs.Record.{mostNodes}
 use Rattle.diagram.specs.Table.{Node, table}
 use Rattle.diagram.specs.Flat.{recordOf, recordsFrom, edgeWords, edgeCount}
 use Rattle.table.specs.Order.{used}
@@ -16,7 +17,7 @@ nodesOf cs ds a = table (levelsOf cs ds) (pos a)
 
 -- The first `count` records are the table's nodes, in order, and the edges have room.
 pub record Finished (cs ds : List ℕ) (a : ℕ) (t : List ℕ) (count : ℕ) (es : List ℕ) : Type 0 where
-  pub few : count ≤ 65536
+  pub few : count ≤ mostNodes
   pub room : count * 4 ≤ length t
   pub records : used t count ≡ map (recordOf 0) (nodesOf cs ds a)
   pub wide : edgeCount (levelsOf cs ds) (nodesOf cs ds a) ≤ length es

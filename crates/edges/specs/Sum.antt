@@ -2,7 +2,8 @@
 use Prim.Native.Nat.{ℕ, _+_, _*_, _-_, _≤_, _<_}
 use mathlib.Core.List.{List, [], _∷_}
 use lib.ListN.{length, getD}
-use Rattle.word.specs.Record.{Record}
+use Rattle.word.specs.Record.{Record, mostNodes}
+use Rattle.diagram.specs.Constraint.{lastEnd}
 use Rattle.table.specs.Order.{used, noRecord}
 
 -- The domain end of a record's level; levels are counted from 1 in a record.
@@ -20,11 +21,11 @@ Levelled n xs = (k : ℕ) → k < length xs → (1 ≤ getD xs k noRecord .level
 
 -- Each domain end is within document 01's limit.
 abbrev pub EndsFit : List ℕ → Type 0
-EndsFit ds = (i : ℕ) → i < length ds → getD ds i 0 ≤ 15
+EndsFit ds = (i : ℕ) → i < length ds → getD ds i 0 ≤ lastEnd
 
 -- What the sum over the first `count` records needs: they are within the table, and each is of a level with a domain end.
 pub record Countable (ds t : List ℕ) (count : ℕ) : Type 0 where
-  pub few : count ≤ 65536
+  pub few : count ≤ mostNodes
   pub room : count * 4 ≤ length t
   pub ends : EndsFit ds
   pub levels : Levelled (length ds) (used t count)

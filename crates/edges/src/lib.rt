@@ -9,6 +9,8 @@ ghost use Prim.Native.Nat.{ℕ, _+_, _*_, _≤_};
 ghost use lib.IntN.{subℕ};
 ghost use lib.ListN.{length};
 ghost use lib.Seq.{paste};
+ghost use Rattle.word.specs.Record.{mostNodes};
+ghost use Rattle.diagram.specs.Constraint.{lastEnd, lastCoefficient};
 ghost use Rattle.word.specs.Edge.{edgeOf};
 ghost use Rattle.table.specs.Order.{used, Sorted};
 ghost use Rattle.constraint.specs.Lent.{Lent};
@@ -62,8 +64,8 @@ fn row(
     edges: &mut [u32],
     first: usize,
 )
-    requires { ⌜ (count ≤ 65536) × (count * 4 ≤ length (now table)) × Sorted (used (now table) count) ⌝ }
-    requires { ⌜ (coef ≤ 65535) × (end ≤ 15) × (first + (end + 1) ≤ length (now edges)) ⌝ }
+    requires { ⌜ (count ≤ mostNodes) × (count * 4 ≤ length (now table)) × Sorted (used (now table) count) ⌝ }
+    requires { ⌜ (coef ≤ lastCoefficient) × (end ≤ lastEnd) × (first + (end + 1) ≤ length (now edges)) ⌝ }
     ensures { λ _. ⌜ now (edges .exit) ≡ paste (now (edges .entry)) first (rowOf (used (now (table .entry)) count) level top coef end lower) (end + 1) ⌝ }
 {
     let mut taken: u32 = 0;

@@ -9,6 +9,7 @@ use Rattle.word.specs.Padded.{padded}
 use Rattle.refusal.specs.declared.Refusal.{Refusal}
 use Rattle.table.specs.Order.{used}
 use Rattle.diagram.specs.Flat.{recordOf, tableWords, edgeWords, edgeCount}
+use Rattle.word.specs.Record.{mostNodes}
 use Rattle.diagram.specs.Constraint.{Constraint}
 use Rattle.encoding.specs.Boolean.{orders}
 use Rattle.encoding.specs.Pattern.{clauseWords, wordCount}
@@ -26,7 +27,7 @@ constraintOf cs ds a = record { bound = pos a; terms = termsOf cs ds }
 pub record Tabled (c : Constraint) (D : ℕ) (top : Edge) (t : List ℕ) (count : ℕ) : Type 0 where
   pub booleans : D ≡ orders (levelsIn c)
   pub root : top ≡ rootFor c
-  pub few : count ≤ 65536
+  pub few : count ≤ mostNodes
   pub room : count * 4 ≤ length t
   pub counted : count ≡ length (nodesFor c)
   pub records : used t count ≡ map (recordOf 0) (nodesFor c)

@@ -28,11 +28,11 @@ abbrev pub Among : Record → List Record → Type 0
 Among y [] = ⊥
 Among y (x ∷ xs) = (y ≡ x) ⊎ Among y xs
 
--- In order: each record comes before all that follow.
 unfoldable pub All : (Record → Type 0) → List Record → Type 0
 All P [] = Unit
 All P (x ∷ xs) = P x × All P xs
 
+-- In order: each record comes before all that follow.
 unfoldable pub Sorted : List Record → Type 0
 Sorted [] = Unit
 Sorted (x ∷ xs) = Proper x × All (Before x) xs × Sorted xs

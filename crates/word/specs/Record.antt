@@ -13,10 +13,14 @@ pub record Record : Type 0 where
 abbrev pub recordWords : ℕ
 recordWords = 4
 
+-- The most nodes that a table is filled with, however long it is.
+abbrev pub mostNodes : ℕ
+mostNodes = 65536
+
 abbrev pub laid : Record → List ℕ
 laid x = x .level ∷ x .lower ∷ x .upper ∷ x .first ∷ []
 
--- Words past the last full record are ignored.
+-- The records that words lay out, four words each; what is left over at the end is none.
 unfoldable pub records : List ℕ → List Record
 records [] = []
 records (a ∷ []) = []
