@@ -173,21 +173,21 @@ fn put_nodes(
     ensures { λ r. ⌜ ((ns : List Node) → Lying ns (now (table .entry)) count (now (edges .entry)) total → Wrote (nodeLines 0 ns) start (now (out .entry)) (now (out .exit)) r) ⌝ }
 {
     let mut at = start;
-    let mut k = 0;
-    'nodes: while k < count {
-        let b = k * RECORD;
-        let first = first_edge(table, count, total, k);
-        let past = first_edge(table, count, total, k + 1);
+    let mut node = 0;
+    'nodes: while node < count {
+        let b = node * RECORD;
+        let first = first_edge(table, count, total, node);
+        let past = first_edge(table, count, total, node + 1);
         at = put_node(
             out,
             at,
-            k,
+            node,
             table[b],
             table[b + 1],
             table[b + 2],
             &edges[first..past],
         );
-        k += 1;
+        node += 1;
     }
     at
 }

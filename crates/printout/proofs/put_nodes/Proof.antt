@@ -1,5 +1,5 @@
--- `printout::put_nodes` meets its contract. The invariant, for every drawing that lies in the memory: the lines of the nodes before k are in, and those from
--- k on are left. The measure is the number of nodes left. Assumes nothing.
+-- `printout::put_nodes` meets its contract. The invariant, for every drawing that lies in the memory: the lines of the nodes before the next are in, and those from
+-- it on are left. The measure is the number of nodes left. Assumes nothing.
 use borrow.Author.Needs.{needs}
 use mathlib.Core.Path.{refl}
 use mathlib.Core.List.{List}
@@ -13,10 +13,10 @@ use Rattle.printout.proofs.put_nodes.Statement.{statement}
 use Rattle.printout.proofs.put_nodes.Tie as tie
 
 abbrev Inv-nodes : tie.InvT-nodes
-Inv-nodes table count edges total out₀ start at₀ k₀ out at k = (ns : List Node) → Lying ns table count edges total → Left (linesLeft ns 0) start out₀ (linesLeft ns k) at out
+Inv-nodes table count edges total out₀ start at₀ node₀ out at node = (ns : List Node) → Lying ns table count edges total → Left (linesLeft ns 0) start out₀ (linesLeft ns node) at out
 
 abbrev μ-nodes : tie.MeasureT-nodes
-μ-nodes table count edges total out₀ start at₀ k₀ out at k = count - k
+μ-nodes table count edges total out₀ start at₀ node₀ out at node = count - node
 
 nodes-holds : tie.Need-nodes-holds Inv-nodes μ-nodes
 nodes-holds c = λ ns l. left-all _ _ _ _ refl
@@ -85,7 +85,7 @@ sub-put-node : tie.Need-sub-put-node Inv-nodes μ-nodes
 sub-put-node c =
     let turn = c .before .before .before .before .before .before .before in
     let l = turn .before .before .before .before .pre .1 in
-    let w = places l (turn .nodes .k) _ _ (omega arith) (c .before .before .before .before .before .first-edge .ensures _ _ l) (c .before .before .before .before .first-edge2 .ensures _ _ l) in
+    let w = places l (turn .nodes .node) _ _ (omega arith) (c .before .before .before .before .before .first-edge .ensures _ _ l) (c .before .before .before .before .first-edge2 .ensures _ _ l) in
     w .0
 
 part-put-node-start : tie.Need-part-put-node-start Inv-nodes μ-nodes
@@ -95,7 +95,7 @@ part-put-node-end : tie.Need-part-put-node-end Inv-nodes μ-nodes
 part-put-node-end c =
     let turn = c .before .before .before .before .before .before .before in
     let l = turn .before .before .before .before .pre .1 in
-    let w = places l (turn .nodes .k) _ _ (omega arith) (c .before .before .before .before .before .first-edge .ensures _ _ l) (c .before .before .before .before .first-edge2 .ensures _ _ l) in
+    let w = places l (turn .nodes .node) _ _ (omega arith) (c .before .before .before .before .before .first-edge .ensures _ _ l) (c .before .before .before .before .first-edge2 .ensures _ _ l) in
     w .1
 
 mul-put-node-4 : tie.Need-mul-put-node-4 Inv-nodes μ-nodes
@@ -104,8 +104,8 @@ mul-put-node-4 c = omega (arith, sub-put-node c, part-put-node-end c)
 put-node-requires : tie.Need-put-node-requires Inv-nodes μ-nodes
 put-node-requires c κs = search needs
 
-add-k : tie.Need-add-k Inv-nodes μ-nodes
-add-k c = search needs
+add-node : tie.Need-add-node Inv-nodes μ-nodes
+add-node c = search needs
 
 nodes-less : tie.Need-nodes-less Inv-nodes μ-nodes
 nodes-less c = search needs
@@ -114,7 +114,7 @@ nodes-again : tie.Need-nodes-again Inv-nodes μ-nodes
 nodes-again c =
     let turn = c .before .before .before .before .before .before .before .before .before .before .before in
     λ ns l.
-    left-less (nodes-turn l (turn .nodes .k) _ _ (omega arith) (c .before .before .before .before .before .before .before .before .before .first-edge .ensures ns _ l) (c .before .before .before .before .before .before .before .before .first-edge2 .ensures ns _ l)) (turn .nodes .inv ns l)
+    left-less (nodes-turn l (turn .nodes .node) _ _ (omega arith) (c .before .before .before .before .before .before .before .before .before .first-edge .ensures ns _ l) (c .before .before .before .before .before .before .before .before .first-edge2 .ensures ns _ l)) (turn .nodes .inv ns l)
     (c .before .before .put-node .ensures)
 
 same-length : tie.Need-same-length Inv-nodes μ-nodes
@@ -126,7 +126,7 @@ same-length c =
 returns : tie.Need-returns Inv-nodes μ-nodes
 returns c =
     let turn = c .before in
-    λ ns l. left-none (nodes-none l (turn .nodes .k) (omega arith)) (turn .nodes .inv ns l)
+    λ ns l. left-none (nodes-none l (turn .nodes .node) (omega arith)) (turn .nodes .inv ns l)
 
 pub put-nodes-spec : {M : Type 1} → statement M
 put-nodes-spec =
@@ -152,7 +152,7 @@ put-nodes-spec =
     part-put-node-start
     part-put-node-end
     put-node-requires
-    add-k
+    add-node
     nodes-less
     nodes-again
     same-length
