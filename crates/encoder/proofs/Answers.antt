@@ -27,7 +27,7 @@ use Rattle.encoder.specs.declared.Encoded.{Encoded}
 use Rattle.encoder.specs.declared.Encoded.the-variants.{Accepted, Refused}
 use Rattle.encoder.specs.Encoded.{levelsIn, nodesFor, capacity, refuseIf, counted, left}
 use Rattle.encoder.specs.Promise.{Demands, WhenAccepted}
-use Rattle.encoder.specs.Passes.{constraintOf, Tabled, Roomy, Filled, Cleared, leftIn, Answered}
+use Rattle.encoder.specs.Passes.{constraintOf, countsBy, Tabled, Roomy, Filled, Cleared, leftIn, Answered}
 use Rattle.encoder.proofs.Meant.{demands-met}
 
 -- ---- The tests, over any constraint
@@ -73,15 +73,15 @@ accepted-answer c n t e w t′ e′ w′ q F = record { reply = sym q; table = F
 
 -- ---- The counts from the sum over the records
 
-module _ (cs ds rs : List ℕ) (L : Lent cs ds rs) (a : ℕ) (D : ℕ) (t : List ℕ) (count : ℕ) (e : Edge) (B : Tabled (constraintOf cs ds a) D e t count) where
+pub sum-small : {ds t : List ℕ} {count : ℕ} → Countable ds t count → endSum ds (used t count) ≤ 983040
+sum-small {ds} {t} {count} C = omega (arith, sum-fits ds (used t count) (C .ends) (C .levels), used-length t count (C .room), C .few)
+
+module _ {cs ds rs : List ℕ} (L : Lent cs ds rs) {a D : ℕ} {t : List ℕ} {count : ℕ} {e : Edge} (B : Tabled (constraintOf cs ds a) D e t count) where
   abbrev c : Constraint
   c = constraintOf cs ds a
 
   pub countable : Countable ds t count
   countable = table-countable cs ds rs L 0 a t count (B .few) (B .room) (B .records)
-
-  pub sum-small : endSum ds (used t count) ≤ 983040
-  sum-small = omega (arith, sum-fits ds (used t count) (countable .ends) (countable .levels), used-length t count (B .room), B .few)
 
   pub ends-le : length ds ≤ D
   ends-le = omega (arith, order-words (termsOf cs ds) (L .limited) .1, length-levels (termsOf cs ds), levels-count cs ds rs L, L .ends, B .booleans)
@@ -89,27 +89,39 @@ module _ (cs ds rs : List ℕ) (L : Lent cs ds rs) (a : ℕ) (D : ℕ) (t : List
   pub nodes-fit : length (nodesFor c) ≤ capacity (length t)
   nodes-fit = omega (arith, B .counted, B .few, B .room)
 
-  pub edges-are : edgeCount (levelsIn c) (nodesFor c) ≡ count + endSum ds (used t count)
-  edges-are = omega (arith, edge-sum cs ds rs L (nodesFor c) (used t count) 0 (B .records), B .counted)
+  -- the counts that the code computes are the diagram's
+  pub counts-are : countsBy ds D (used t count) count ≡ countsOf c
+  counts-are =
+      let p : count ≡ length (nodesFor c) = B .counted in
+      let q : count + endSum ds (used t count) ≡ edgeCount (levelsIn c) (nodesFor c) = omega (arith, edge-sum cs ds rs L (nodesFor c) (used t count) 0 (B .records), B .counted) in
+      let r : 3 * (D - length ds) + 6 + 3 * count + 4 * endSum ds (used t count) ≡ wordCount (levelsIn c) (nodesFor c) =
+      omega (arith, word-sum cs ds rs L (nodesFor c) (used t count) 0 (B .records), B .counted, B .booleans, levels-count cs ds rs L, L .ends) in
+      λ i. record { nodes = p i; edges = q i; words = r i }
 
-  pub words-are : wordCount (levelsIn c) (nodesFor c) ≡ 3 * (D - length ds) + 6 + 3 * count + 4 * endSum ds (used t count)
-  words-are = omega (arith, word-sum cs ds rs L (nodesFor c) (used t count) 0 (B .records), B .counted, B .booleans, levels-count cs ds rs L, L .ends)
+-- equal counts agree in each part
+pub same-nodes : {m n : Counts} → m ≡ n → m .nodes ≡ n .nodes
+same-nodes is = ap (λ (x : Counts). x .nodes) is
 
-  -- the counts that the code computes are the diagram's, where they find room
-  pub roomy : (es ws : List ℕ) (sum : ℕ) (n : Counts) → sum ≡ endSum ds (used t count) → count + sum ≤ length es → 3 * (D - length ds) + 6 + 3 * count + 4 * sum ≤ length ws
-      → n ≡ record { nodes = count; edges = count + sum; words = 3 * (D - length ds) + 6 + 3 * count + 4 * sum } → Roomy c n es ws
-  roomy es ws sum n q h k is =
-      rw is
-      (record {
-        nodes = B .counted;
-        edges = omega (arith, edges-are);
-        words = omega (arith, words-are);
-        wide = omega (arith, edges-are);
-        long = omega (arith, words-are);
-      })
+pub same-edges : {m n : Counts} → m ≡ n → m .edges ≡ n .edges
+same-edges is = ap (λ (x : Counts). x .edges) is
 
-pub roomy-counts : (c : Constraint) (n : Counts) (es ws : List ℕ) → Roomy c n es ws → n ≡ countsOf c
-roomy-counts c n es ws m = let p = m .nodes in let q = m .edges in let r = m .words in λ i. record { nodes = p i; edges = q i; words = r i }
+pub same-words : {m n : Counts} → m ≡ n → m .words ≡ n .words
+same-words is = ap (λ (x : Counts). x .words) is
+
+-- the diagram's counts, where they find room
+pub roomy : (c : Constraint) (n : Counts) (es ws : List ℕ) → n ≡ countsOf c → n .edges ≤ length es → n .words ≤ length ws → Roomy c n es ws
+roomy c n es ws is h k =
+    record {
+      nodes = same-nodes is;
+      edges = same-edges is;
+      words = same-words is;
+      wide = subst (λ (x : Counts). x .edges ≤ length es) is h;
+      long = subst (λ (x : Counts). x .words ≤ length ws) is k;
+    }
+
+-- a table of so many nodes, by another name of their number
+pub renumbered : (c : Constraint) (D : ℕ) (e : Edge) (t : List ℕ) {m n : ℕ} → m ≡ n → Tabled c D e t n → Tabled c D e t m
+renumbered c D e t is B = subst (Tabled c D e t) (sym is) B
 
 -- ---- The demands of an answer
 

@@ -17,9 +17,11 @@ ghost use Rattle.refusal.specs.declared.Checked.the-variants.{Passed};
 ghost use Rattle.constraint.specs.Reading.{checked, stated};
 ghost use Rattle.constraint.specs.Held.{recordOf};
 ghost use Rattle.constraint.specs.Lent.{levelsOf, Lent};
+ghost use Rattle.table.specs.Order.{used};
+ghost use Rattle.edges.specs.Sum.{Countable};
 ghost use Rattle.encoder.specs.Encoded.{capacity};
 ghost use Rattle.encoder.specs.Promise.{Promise};
-ghost use Rattle.encoder.specs.Passes.{constraintOf, Tabled, Roomy, Filled, Cleared, Answered};
+ghost use Rattle.encoder.specs.Passes.{constraintOf, countsBy, Tabled, Roomy, Filled, Cleared, Answered};
 
 // The most nodes that a table is filled with, however long it is.
 const NODES: usize = 65536;
@@ -83,6 +85,20 @@ fn fill<'a>(
     word::clear(clauses, counts.words);
 }
 
+// The counts of a table that is built, by the sum of domain ends over its records.
+fn count(ends: &[u32], orders: u32, table: &[u32], nodes: usize) -> Counts
+    requires { ⌜ Countable (now ends) (now table) nodes ⌝ }
+    requires { ⌜ (length (now ends) ≤ orders) ⌝ }
+    ensures { λ r. ⌜ r ≡ countsBy (now (ends .entry)) orders (used (now (table .entry)) nodes) nodes ⌝ }
+{
+    let sum = edges::sum_ends(ends, table, nodes);
+    Counts {
+        nodes,
+        edges: nodes + sum,
+        words: 3 * (orders as usize - ends.len()) + 6 + 3 * nodes + 4 * sum,
+    }
+}
+
 // Refusals 7 to 9 by the diagram's own counts, or the lists filled, for a table that is built.
 fn finish<'a>(
     coefs: &'a [u32],
@@ -100,23 +116,16 @@ fn finish<'a>(
     ensures { λ r. ⌜ ((a : ℕ) → Tabled (constraintOf (now (coefs .entry)) (now (ends .entry)) a) orders (edgeOf root) (now (table .entry)) nodes
         → Answered (constraintOf (now (coefs .entry)) (now (ends .entry)) a) (now (table .entry)) (now (edges .entry)) (now (clauses .entry)) (now (table .exit)) (now (edges .exit)) (now (clauses .exit)) r) ⌝ }
 {
-    let sum = edges::sum_ends(ends, table, nodes);
-    let wide = nodes + sum;
-    let long = 3 * (orders as usize - ends.len()) + 6 + 3 * nodes + 4 * sum;
-    if edges.len() < wide {
+    let counts = count(ends, orders, table, nodes);
+    if edges.len() < counts.edges {
         return refuse(Refusal::TooManyEdges, table, edges, clauses);
     }
-    if clauses.len() < long {
+    if clauses.len() < counts.words {
         return refuse(Refusal::TooManyWords, table, edges, clauses);
     }
     if BOOLEANS < orders as usize + 2 + nodes {
         return refuse(Refusal::TooManyBooleans, table, edges, clauses);
     }
-    let counts = Counts {
-        nodes,
-        edges: wide,
-        words: long,
-    };
     fill(
         coefs,
         ends,
