@@ -31,7 +31,7 @@ pub fn differ(what: &str, input: String) -> ! {
     std::process::exit(1)
 }
 
-/// Words as the paper writes them.
+/// Words in hexadecimal.
 pub fn hex(words: &[u32]) -> String {
     let all: Vec<String> = words.iter().map(|w| format!("{w:08X}")).collect();
     all.join(" ")

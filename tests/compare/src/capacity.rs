@@ -9,6 +9,7 @@ pub fn both_ends(r: &mut Random) -> u64 {
     let full = fixed::full_with(1);
     let over = fixed::full_with(2);
     let d = sums::build(&over, 1 << 20).unwrap();
+    assert_eq!(d.nodes.len(), 65_537);
     let (edges, words) = (d.edges.len(), reference::clauses::clauses(&over, &d).len());
     let cases = [(&full, 262_144, 0), (&full, 262_150, 0), (&full, 262_143, 6), (&over, 262_148, 6), (&over, 300_001, 6)];
     for (c, table, number) in &cases {

@@ -1,4 +1,4 @@
-//! The course paper's exercises and the limits, with what the paper says of them.
+//! The specification's exercises and the limits, with what it says of them.
 
 use crate::call::{both, differ, hex, Given};
 use reference::encode::Build;
@@ -24,7 +24,7 @@ fn labels(g: &Given) -> Vec<(u32, u32, u32)> {
     g.table.chunks_exact(4).take(g.reply.nodes as usize).map(|r| (r[0], r[1], r[2])).collect()
 }
 
-/// One exercise on both sides, with both ways to build; its counts of nodes and words are the paper's.
+/// One exercise on both sides, with both ways to build; its counts of nodes and words are the specification's.
 fn exercise(r: &mut Random, name: &str, terms: &[(u32, u32)], bound: u32, nodes: u64, count: u64) -> Given {
     let w = words(terms, bound);
     both(r, maps::build, &w, ROOM);

@@ -1,4 +1,4 @@
-//! Compares the proved archive with the separately written implementation: replies and every lent word. The seed is fixed, so a difference can be met again.
+//! Compares the proved archive and the printing program with the separately written implementation: replies, every lent word, every printed byte. The seed is fixed, so a difference can be met again.
 
 mod call;
 mod capacity;
@@ -6,6 +6,7 @@ mod encoder;
 mod exercises;
 mod inputs;
 mod others;
+mod show;
 
 use reference::random::Random;
 
@@ -49,5 +50,7 @@ fn main() {
     );
     let (compared, yes) = others::comparer(&mut r, 2_000);
     println!("file comparer: {compared} calls, {yes} yes");
+    let (shown, refused) = show::program(&mut r, 400);
+    println!("printing program: {shown} inputs (refused by number {})", numbers(&refused));
     println!("no difference, {:.1} s", begin.elapsed().as_secs_f64());
 }

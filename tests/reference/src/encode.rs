@@ -21,7 +21,7 @@ fn place(list: &mut [u32], words: &[u32]) {
     list[words.len()..].fill(0);
 }
 
-/// The whole call: the counts or the refusal, and the three lists as the paper leaves them.
+/// The whole call: the counts or the refusal, and the three lists as the specification leaves them.
 pub fn encode(build: Build, words: &[u32], table: &mut [u32], edges: &mut [u32], list: &mut [u32]) -> Result<Counts, Refusal> {
     let c = read(words)?;
     let made = build(&c, (table.len() / 4).min(65_536));
