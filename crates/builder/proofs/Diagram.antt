@@ -8,8 +8,8 @@ use native.Mathlib.Nat.{le-refl, le-trans, ne-of-lt}
 use native.Mathlib.Omega.{arith}
 use lib.IntN.{ℤ, pos}
 use lib.ListN.{length, getD, take, drop, length-map}
-use Rattle.word.specs.Record.{Record}
-use Rattle.table.specs.Order.{Before, Proper, Among, Sorted, noRecord}
+use Rattle.word.specs.Record.{Record, noRecord}
+use Rattle.table.specs.Order.{Before, Proper, Among, Sorted}
 use Rattle.table.proofs.Order.{among-at, at-among, sorted-of}
 use Rattle.diagram.specs.Level.{Level, AllAscend, R, total, Same}
 use Rattle.diagram.specs.Label.{Label, label, Holds, Undecided}

@@ -8,10 +8,10 @@ use lib.Dec.{ltb, leb}
 use lib.ListN.{length, getD, drop}
 use borrow.Author.Tests.{ltb-true, ltb-false, leb-true, leb-false}
 use Rattle.word.specs.declared.Remainder.{Remainder}
-use Rattle.word.specs.Record.{Record}
+use Rattle.word.specs.Record.{Record, noRecord}
 use Rattle.table.specs.declared.Found.the-variants.{At, Nothing}
 use Rattle.table.specs.Find.{findIn}
-use Rattle.table.specs.Order.{used, noRecord, Placed, insertAt}
+use Rattle.table.specs.Order.{used, Placed, insertAt}
 use Rattle.table.proofs.Flat.{recordAt, used-length, used-at}
 use Rattle.table.proofs.Order.{among-at}
 use Rattle.table.proofs.Says.{find-says, nothing-holds}

@@ -11,8 +11,8 @@ use lib.Dec.{ltb}
 use lib.IntN.{pos}
 use lib.ListN.{length, getD, drop}
 use borrow.Author.Tests.{ltb-true, ltb-false}
-use Rattle.word.specs.Record.{Record}
-use Rattle.table.specs.Order.{key, Before, Proper, Among, Sorted, noRecord, Placed, insertAt}
+use Rattle.word.specs.Record.{Record, noRecord}
+use Rattle.table.specs.Order.{key, Before, Proper, Among, Sorted, Placed, insertAt}
 use Rattle.table.proofs.Order.{sorted-at, proper-at, among-at, at-among, insert-length, insert-new, insert-old, insert-cases, sorted-insert}
 use Rattle.diagram.specs.Level.{Level, AllAscend, R}
 use Rattle.diagram.specs.Label.{Label, label, Holds}

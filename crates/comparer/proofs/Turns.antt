@@ -11,14 +11,11 @@ use lib.Dec.{eqb}
 use lib.ListN.{length, getD, drop, drop-of-length-le, length-drop}
 use lib.Seq.{drop-cons}
 use borrow.Author.Tests.{eqb-true, eq-eqb, ne-eqb}
+use Rattle.word.specs.Word.{ofBytes}
 use Rattle.comparer.specs.Bytes.{bytesOf, eqList}
 
--- Four bytes as one number.
-abbrev pub joined : ℕ → ℕ → ℕ → ℕ → ℕ
-joined a b c d = a * 0x1000000 + b * 0x10000 + c * 0x100 + d
-
 -- A word is its four bytes, taken apart one byte at a time.
-word-joined : (w : ℕ) → w < 0x100000000 → joined (w / 0x1000000 % 256) (w / 0x10000 % 256) (w / 0x100 % 256) (w % 256) ≡ w
+word-joined : (w : ℕ) → w < 0x100000000 → ofBytes (w / 0x1000000 % 256) (w / 0x10000 % 256) (w / 0x100 % 256) (w % 256) ≡ w
 word-joined w h =
     let high : w / 0x1000000 % 256 ≡ w / 0x1000000 = omega arith in
     let second : w / 0x10000 ≡ w / 0x1000000 * 256 + w / 0x10000 % 256 = omega arith in
@@ -33,7 +30,7 @@ fourTests a b c d w more =
 
 -- Four bytes that make the word pass the tests, and others fail one.
 module _ (a b c d w : ℕ) (more : Bool) (ha : a < 256) (hb : b < 256) (hc : c < 256) (hd : d < 256) (hw : w < 0x100000000) where
-  pub tests-pass : joined a b c d ≡ w → fourTests a b c d w more ≡ more
+  pub tests-pass : ofBytes a b c d ≡ w → fourTests a b c d w more ≡ more
   tests-pass e =
       rw (
         eq-eqb a (w / 0x1000000 % 256) (omega arith),
@@ -42,7 +39,7 @@ module _ (a b c d w : ℕ) (more : Bool) (ha : a < 256) (hb : b < 256) (hc : c <
         eq-eqb d (w % 256) (omega arith),
       )
 
-  pub tests-fail : ¬ (joined a b c d ≡ w) → fourTests a b c d w more ≡ false
+  pub tests-fail : ¬ (ofBytes a b c d ≡ w) → fourTests a b c d w more ≡ false
   tests-fail n =
       go
       (eqb a (w / 0x1000000 % 256))
@@ -125,7 +122,7 @@ module _ (bs ws : List ℕ) (k : ℕ) where
 
   module _ (inside : k < length ws) (whole : k * 4 + 3 < length bs) (bound : (i : ℕ) → getD bs i 0 < 256) (small : getD ws k 0 < 0x100000000) (same : Same) where
     -- Word k differs from its four bytes.
-    pub word-differs : ¬ (joined (getD bs (k * 4) 0) (getD bs (k * 4 + 1) 0) (getD bs (k * 4 + 2) 0) (getD bs (k * 4 + 3) 0) ≡ getD ws k 0) → false ≡ eqList bs (bytesOf ws)
+    pub word-differs : ¬ (ofBytes (getD bs (k * 4) 0) (getD bs (k * 4 + 1) 0) (getD bs (k * 4 + 2) 0) (getD bs (k * 4 + 3) 0) ≡ getD ws k 0) → false ≡ eqList bs (bytesOf ws)
     word-differs n =
         sym
         (same
@@ -133,7 +130,7 @@ module _ (bs ws : List ℕ) (k : ℕ) where
         ∙ tests-fail _ _ _ _ _ behind (bound (k * 4)) (bound (k * 4 + 1)) (bound (k * 4 + 2)) (bound (k * 4 + 3)) small n)
 
     -- Word k is its four bytes.
-    pub word-equal : joined (getD bs (k * 4) 0) (getD bs (k * 4 + 1) 0) (getD bs (k * 4 + 2) 0) (getD bs (k * 4 + 3) 0) ≡ getD ws k 0
+    pub word-equal : ofBytes (getD bs (k * 4) 0) (getD bs (k * 4 + 1) 0) (getD bs (k * 4 + 2) 0) (getD bs (k * 4 + 3) 0) ≡ getD ws k 0
         → eqList bs (bytesOf ws) ≡ eqList (drop ((k + 1) * 4) bs) (bytesOf (drop (k + 1) ws))
     word-equal e =
         let f : (k + 1) * 4 ≡ k * 4 + 4 = omega arith in

@@ -3,13 +3,6 @@ ghost use mathlib.Core.Path.{_≡_};
 ghost use Prim.Native.Nat.{_+_, _*_};
 ghost use Rattle.comparer.specs.Bytes.{sameBytes};
 
-// The word of four bytes, most significant first.
-fn word_of(a: u8, b: u8, c: u8, d: u8) -> u32
-    ensures { λ r. ⌜ r ≡ a * 0x1000000 + b * 0x10000 + c * 0x100 + d ⌝ }
-{
-    a as u32 * 0x1000000 + b as u32 * 0x10000 + c as u32 * 0x100 + d as u32
-}
-
 // Whether the words, each as its four bytes from the highest down, are these bytes and no more.
 pub fn compare(bytes: &[u8], words: &[u32]) -> bool
     ensures { λ r. ⌜ r ≡ sameBytes (now (bytes .entry)) (now (words .entry)) ⌝ }
@@ -21,7 +14,7 @@ pub fn compare(bytes: &[u8], words: &[u32]) -> bool
             return false;
         }
         let b = k * 4;
-        if word_of(bytes[b], bytes[b + 1], bytes[b + 2], bytes[b + 3]) != words[k] {
+        if word::word_of(bytes[b], bytes[b + 1], bytes[b + 2], bytes[b + 3]) != words[k] {
             return false;
         }
         k += 1;

@@ -1,15 +1,14 @@
 -- The laws of constraints read from words: they are within the limits, their sums fit a word, and where the record holds each term's parts.
 -- By induction over the words and the terms. Assumes nothing.
-use mathlib.Core.Path.{_≡_, refl, ap, _∙_}
+use mathlib.Core.Path.{_≡_, refl, ap}
 use mathlib.Core.Bool.{Bool, true, false, _&&_}
 use mathlib.Core.List.{List, [], _∷_, map}
-use Prim.Native.Nat.{ℕ, zero, suc, _+_, _-_, _*_, _≤_, _<_}
+use Prim.Native.Nat.{ℕ, zero, suc, _+_, _-_, _*_, _≤_}
 use native.Mathlib.Omega.{arith}
 use native.Mathlib.Nat.{mul-le-mul, mul-suc}
 use borrow.Author.Tests.{leb-true}
 use lib.Dec.{leb, eqb}
-use lib.ListN.{length, getD, drop, length-map, List·getD-append}
-use Rattle.word.specs.Padded.{padded}
+use lib.ListN.{length, getD, drop, length-map}
 use Rattle.word.specs.Word.{kind, coefficient, domainEnd}
 use Rattle.refusal.specs.Table.{numberOf, andThen, unless}
 use Rattle.refusal.specs.declared.Refusal.{Refusal}
@@ -19,8 +18,9 @@ use Rattle.refusal.specs.declared.Refusal.the-variants.{NoWords, WrongKind, Ter
 use Rattle.diagram.specs.Level.{Level, R}
 use Rattle.diagram.specs.Constraint.{Term, Constraint, levels, Limited, AllLimited, Within}
 use Rattle.encoding.specs.Boolean.{orders}
+use Rattle.encoding.proofs.Demand.{orders-le}
 use Rattle.constraint.specs.Reading.{upTo, eachFrom, kindChecked, countChecked, termChecked, checked, termOf, stated}
-use Rattle.constraint.specs.Held.{boundWord, restsOf, recordOf}
+use Rattle.constraint.specs.Held.{boundWord, restsOf}
 
 -- A refusal does not pass.
 pub refused-fails : {A : Type 0} (x : Refusal) → Refused x ≡ Passed → A
@@ -81,7 +81,7 @@ unfolding stated
 bound-fits [] = omega arith
 bound-fits (w ∷ ws) = omega arith
 
--- What each term adds at most, times the number of terms, is the most that they add: for R and for D.
+-- What each term adds at most, times the number of terms, is the most that they add.
 by-length : (total : List Level → ℕ) (most : ℕ) → total [] ≡ 0
     → ((t : Term) (ts : List Term) → Limited t → total (levels (t ∷ ts)) ≤ most + total (levels ts))
     → (ts : List Term) → AllLimited ts → total (levels ts) ≤ most * length ts
@@ -91,9 +91,6 @@ by-length total most none one (t ∷ ts) (l, a) =
 
 pub rest-by-length : (ts : List Term) → AllLimited ts → R (levels ts) ≤ 983025 * length ts
 rest-by-length = by-length R 983025 refl (λ t ts l. let here : t .coef * t .end ≤ 65535 * 15 = mul-le-mul (l .3) (l .1) in omega arith)
-
-pub orders-by-length : (ts : List Term) → AllLimited ts → orders (levels ts) ≤ 15 * length ts
-orders-by-length = by-length orders 15 refl (λ t ts l. omega (arith, l .1))
 
 -- The levels from a place on add no more than all: for R and for D.
 falls : (total : List Level → ℕ) → ((l : Level) (ls : List Level) → total ls ≤ total (l ∷ ls))
@@ -113,7 +110,7 @@ pub rest-fits : (c : Constraint) → Within c → (i : ℕ) → R (drop i (level
 rest-fits c w i = omega (arith, rest-falls (levels (c .terms)) i, rest-by-length (c .terms) (w .each), w .few)
 
 pub orders-fit : (c : Constraint) → Within c → orders (levels (c .terms)) ≤ 960
-orders-fit c w = omega (arith, orders-by-length (c .terms) (w .each), w .few)
+orders-fit c w = omega (arith, orders-le (c .terms) (w .each), w .few)
 
 -- Levels, term by term.
 pub levels-drop : (ts : List Term) (i : ℕ) → drop i (levels ts) ≡ levels (drop i ts)
@@ -121,47 +118,16 @@ levels-drop ts zero = refl
 levels-drop [] (suc i) = refl
 levels-drop (t ∷ ts) (suc i) = levels-drop ts i
 
-pub length-levels : (ts : List Term) → length (levels ts) ≡ length ts
-length-levels [] = refl
-length-levels (t ∷ ts) = ap suc (length-levels ts)
-
 pub length-rests : (ls : List Level) → length (restsOf ls) ≡ suc (length ls)
 length-rests [] = refl
 length-rests (l ∷ ls) = ap suc (length-rests ls)
 
-at-of-map : (f : Term → ℕ) (ts : List Term) (i : ℕ) (t : Term) → i < length ts → getD (map f ts) i 0 ≡ f (getD ts i t)
-at-of-map f [] i t h = absurd (omega arith)
-at-of-map f (u ∷ ts) zero t h = refl
-at-of-map f (u ∷ ts) (suc i) t h = at-of-map f ts i t (omega arith)
-
-at-of-padded : (f : Term → ℕ) (n : ℕ) (ts : List Term) (i : ℕ) (t : Term) → i < length ts
-    → getD (padded n (map f ts)) i 0 ≡ f (getD ts i t)
-at-of-padded f n ts i t h = List·getD-append (map f ts) _ 0 i (rw length-map h) ∙ at-of-map f ts i t h
-
-at-of-rests : (ls : List Level) (i : ℕ) → i ≤ length ls → getD (restsOf ls) i 0 ≡ R (drop i ls)
-at-of-rests [] zero h = refl
-at-of-rests [] (suc i) h = absurd (omega arith)
-at-of-rests (l ∷ ls) zero h = refl
-at-of-rests (l ∷ ls) (suc i) h = at-of-rests ls i (omega arith)
-
--- WHERE THE RECORD HOLDS the parts of each term, from place 0 on, and each R; t is what the terms are read with past their end.
-pub coefficient-at : (c : Constraint) (i : ℕ) (t : Term) → i < length (c .terms)
-    → getD (recordOf c .coefficients) i 0 ≡ getD (c .terms) i t .coef
-unfolding recordOf
-coefficient-at c i t h = at-of-padded (λ (u : Term). u .coef) 64 (c .terms) i t h
-
-pub end-at : (c : Constraint) (i : ℕ) (t : Term) → i < length (c .terms)
-    → getD (recordOf c .ends) i 0 ≡ getD (c .terms) i t .end
-unfolding recordOf
-end-at c i t h = at-of-padded (λ (u : Term). u .end) 64 (c .terms) i t h
-
-pub rest-at : (c : Constraint) (i : ℕ) → i ≤ length (c .terms)
-    → getD (recordOf c .rests) i 0 ≡ R (drop i (levels (c .terms)))
-unfolding recordOf
-rest-at c i h =
-    let ls = levels (c .terms) in
-    let k : i ≤ length ls = rw length-levels h in
-    List·getD-append (restsOf ls) _ 0 i (rw length-rests (omega arith)) ∙ at-of-rests ls i k
+-- the sums, level by level
+pub rests-at : (ls : List Level) (i : ℕ) → i ≤ length ls → getD (restsOf ls) i 0 ≡ R (drop i ls)
+rests-at [] zero h = refl
+rests-at [] (suc i) h = absurd (omega arith)
+rests-at (l ∷ ls) zero h = refl
+rests-at (l ∷ ls) (suc i) h = rests-at ls i (omega arith)
 
 -- The words behind the first are the terms.
 pub length-stated : (ws : List ℕ) → length (stated ws .terms) ≡ length ws - 1

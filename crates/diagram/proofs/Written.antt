@@ -1,19 +1,18 @@
 -- The flat form read back: what stands at each place of the table words and of the edge list, and how long they are. Assumes nothing.
 use mathlib.Core.Path.{_≡_, refl, sym, ap, ap₂, _∙_}
 use mathlib.Core.List.{List, [], _∷_, _++_, map, append-assoc}
-use Prim.Native.Nat.{ℕ, zero, suc, _+_, _*_, _-_, _<_}
+use Prim.Native.Nat.{ℕ, zero, suc, _+_, _*_, _-_, _≤_, _<_}
 use native.Mathlib.Nat.{not-suc-le-zero, le-of-suc-le-suc}
 use native.Mathlib.Omega.{arith}
 use lib.ListN.{length, getD, take, drop, length-append, length-map}
 use lib.Seq.{take-at, drop-at, drop-drop}
 use borrow.Author.Tests.{ne-eqb}
 use Rattle.word.specs.Edge.{Edge, F, T, to, edgeWord}
-use Rattle.word.specs.Record.{Record, recordWords, records}
+use Rattle.word.specs.Record.{Record, recordWords, records, noRecord}
 use Rattle.diagram.specs.Level.{Level}
 use Rattle.diagram.specs.Table.{Node}
 use Rattle.diagram.specs.Claim.{nodeAt, levelAt}
 use Rattle.diagram.specs.Flat.{recordOf, recordsFrom, flat, tableWords, edgeWords, edgeCount, edgeIn, nodeIn, nodesIn}
-use Rattle.diagram.proofs.Places.{map-at, append-left, append-right}
 
 -- the records of the words are the records that were laid out
 pub flat-records : (xs : List Record) → records (flat xs) ≡ xs
@@ -37,9 +36,6 @@ firstPlace xs zero = 0
 firstPlace [] (suc n) = 0
 firstPlace (x ∷ xs) (suc n) = length (x .children) + firstPlace xs n
 
-abbrev pub noRecord : Record
-noRecord = record { level = 0; lower = 0; upper = 0; first = 0 }
-
 pub record-at : (first : ℕ) (ns : List Node) (n : ℕ) → n < length ns → getD (recordsFrom first ns) n noRecord ≡ recordOf (first + firstPlace ns n) (nodeAt ns n)
 unfolding recordsFrom firstPlace
 record-at first [] n h = absurd (not-suc-le-zero h)
@@ -48,17 +44,13 @@ record-at first (x ∷ xs) (suc n) h =
     let e : first + length (x .children) + firstPlace xs n ≡ first + (length (x .children) + firstPlace xs n) = omega arith in
     record-at (first + length (x .children)) xs n (le-of-suc-le-suc h) ∙ ap (λ (p : ℕ). recordOf p (nodeAt xs n)) e
 
--- the edges of node n stand from its first place on
-pub edge-at : (xs : List Node) (n j : ℕ) → n < length xs → j < length (nodeAt xs n .children)
-    → getD (edgeWords xs) (firstPlace xs n + j) 0 ≡ edgeWord (getD (nodeAt xs n .children) j F)
-unfolding edgeWords firstPlace
-edge-at [] n j h k = absurd (not-suc-le-zero h)
-edge-at (x ∷ xs) zero j h k =
-    append-left (map edgeWord (x .children)) (edgeWords xs) (0 + j) j 0 (omega arith) (omega (arith, length-map (x .children) edgeWord))
-    ∙ map-at edgeWord (x .children) j 0 F k
-edge-at (x ∷ xs) (suc n) j h k =
-    append-right (map edgeWord (x .children)) (edgeWords xs) (length (x .children) + firstPlace xs n + j) (firstPlace xs n + j) 0 (omega (arith, length-map (x .children) edgeWord))
-    ∙ edge-at xs n j (le-of-suc-le-suc h) k
+-- the children of node n end within the edge list
+pub place-inside : (ns : List Node) (n : ℕ) → n < length ns → firstPlace ns n + length (nodeAt ns n .children) ≤ length (edgeWords ns)
+unfolding firstPlace edgeWords
+place-inside [] n h = absurd (not-suc-le-zero h)
+place-inside (x ∷ xs) zero h = omega (arith, length-append (map edgeWord (x .children)) (edgeWords xs), length-map (x .children) edgeWord)
+place-inside (x ∷ xs) (suc n) h =
+    omega (arith, length-append (map edgeWord (x .children)) (edgeWords xs), length-map (x .children) edgeWord, place-inside xs n (le-of-suc-le-suc h))
 
 -- THE EDGE COUNT, where every node has a child for each value of its level
 pub edges-count : (ls : List Level) (xs : List Node) → ((m : ℕ) → m < length xs → length (nodeAt xs m .children) ≡ suc (levelAt ls (nodeAt xs m .level - 1) .dom))
@@ -87,19 +79,9 @@ edge-in F s = refl
 edge-in T s = refl
 edge-in (to n) s = rw (ne-eqb n 0xC0000000 (λ q. omega arith), ne-eqb n 0xC0000001 (λ q. omega arith))
 
-AllSmall : List Edge → Type 0
-AllSmall [] = Unit {0}
-AllSmall (e ∷ es) = Small e × AllSmall es
-
-edges-in : (es : List Edge) → AllSmall es → map edgeIn (map edgeWord es) ≡ es
-unfolding AllSmall
+pub edges-in : (es : List Edge) → ((j : ℕ) → j < length es → Small (getD es j F)) → map edgeIn (map edgeWord es) ≡ es
 edges-in [] s = refl
-edges-in (e ∷ es) s = ap₂ (λ (x : Edge) (xs : List Edge). x ∷ xs) (edge-in e (s .0)) (edges-in es (s .1))
-
-all-small : (es : List Edge) → ((j : ℕ) → j < length es → Small (getD es j F)) → AllSmall es
-unfolding AllSmall
-all-small [] h = tt
-all-small (e ∷ es) h = (h 0 (omega arith), all-small es (λ j k. h (suc j) (omega arith)))
+edges-in (e ∷ es) s = ap₂ (λ (x : Edge) (xs : List Edge). x ∷ xs) (edge-in e (s 0 (omega arith))) (edges-in es (λ j h. s (suc j) (omega arith)))
 
 -- what the drawing asks of nodes: a child for each value, and small numbers
 pub record Plain (ls : List Level) (x : Node) : Type 0 where
@@ -113,7 +95,7 @@ node-in ls x first es rest p e = λ i. record { level = x .level; lab = x .lab; 
     kids =
         ap (λ (l : List ℕ). map edgeIn (take (suc (levelAt ls (x .level - 1) .dom)) l)) e
         ∙ ap (map edgeIn) (take-at (map edgeWord (x .children)) rest (suc (levelAt ls (x .level - 1) .dom)) (length-map (x .children) edgeWord ∙ p .row))
-        ∙ edges-in (x .children) (all-small (x .children) (p .numbers))
+        ∙ edges-in (x .children) (p .numbers)
 
 nodes-in : (ls : List Level) (xs : List Node) (first : ℕ) (es rest : List ℕ) → ((m : ℕ) → m < length xs → Plain ls (nodeAt xs m)) → drop first es ≡ edgeWords xs ++ rest
     → map (nodeIn ls es) (recordsFrom first xs) ≡ xs

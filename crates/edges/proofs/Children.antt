@@ -13,7 +13,7 @@ use lib.ListN.{length, getD, take, drop, length-map}
 use lib.Seq.{ext-getD}
 use borrow.Author.Tests.{le-leb, lt-leb}
 use Rattle.word.specs.Edge.{Edge, F, T, to, edgeWord}
-use Rattle.word.specs.Record.{Record}
+use Rattle.word.specs.Record.{Record, noRecord}
 use Rattle.diagram.specs.Level.{Level, AllAscend, R}
 use Rattle.diagram.specs.Table.{Node, noNode, table, root, row}
 use Rattle.diagram.specs.Claim.{nodeAt, OfLevel, Leads, Whole}
@@ -23,7 +23,7 @@ use Rattle.diagram.proofs.Whole.{whole}
 use Rattle.table.specs.declared.Found.{Found}
 use Rattle.table.specs.declared.Found.the-variants.{At, Nothing}
 use Rattle.table.specs.Find.{findIn}
-use Rattle.table.specs.Order.{used, Sorted, noRecord}
+use Rattle.table.specs.Order.{used, Sorted}
 use Rattle.table.proofs.Flat.{used-length}
 use Rattle.table.proofs.Order.{Standing}
 use Rattle.table.proofs.Says.{find-says}

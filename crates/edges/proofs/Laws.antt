@@ -6,18 +6,18 @@ use Prim.Native.Nat.{ℕ, zero, suc, _+_, _*_, _-_, _≤_, _<_}
 use native.Mathlib.Omega.{arith}
 use lib.IntN.{pos}
 use lib.ListN.{length, getD, length-map}
-use Rattle.word.specs.Record.{Record}
+use Rattle.word.specs.Record.{Record, noRecord}
 use Rattle.diagram.specs.Table.{Node, noNode}
 use Rattle.diagram.specs.Claim.{nodeAt, levelAt, OfLevel}
 use Rattle.diagram.specs.Constraint.{Term, levels, AllLimited}
 use Rattle.diagram.specs.Flat.{recordOf, edgeCount}
 use Rattle.diagram.proofs.Places.{map-at}
 use Rattle.diagram.proofs.Whole.{whole}
+use Rattle.diagram.proofs.Terms.{levels-length}
 use Rattle.encoding.specs.Boolean.{orders}
 use Rattle.encoding.specs.Pattern.{orderWords, nodeWords, wordCount}
-use Rattle.table.specs.Order.{used, noRecord}
+use Rattle.table.specs.Order.{used}
 use Rattle.constraint.specs.Lent.{termsOf, levelsOf, Lent}
-use Rattle.constraint.proofs.Laws.{length-levels}
 use Rattle.constraint.proofs.Slices.{levels-count, levels-good, term-at}
 use Rattle.edges.specs.Sum.{endSum, Levelled, EndsFit, Countable}
 use Rattle.edges.specs.Linked.{nodesOf}
@@ -85,4 +85,4 @@ module _ (cs ds rs : List ℕ) (L : Lent cs ds rs) where
     -- THE CLAUSE WORD COUNT
     pub word-sum : wordCount (levelsOf cs ds) ns ≡ 3 * (orders (levelsOf cs ds) - length (levelsOf cs ds)) + 6 + 3 * length ns + 4 * endSum ds xs
     word-sum =
-        omega (arith, order-words (termsOf cs ds) (L .limited), node-words f ns, length-levels (termsOf cs ds), ap (endSum ds) e)
+        omega (arith, order-words (termsOf cs ds) (L .limited), node-words f ns, levels-length (termsOf cs ds), ap (endSum ds) e)

@@ -4,11 +4,11 @@ use mathlib.Core.List.{List, [], _∷_, map}
 use Prim.Native.Nat.{ℕ, suc, _<_}
 use native.Mathlib.Omega.{arith}
 use lib.ListN.{length, getD, length-map}
-use Rattle.word.specs.Record.{Record}
+use Rattle.word.specs.Record.{Record, noRecord}
 use Rattle.diagram.proofs.Places.{map-at}
 use Rattle.table.specs.declared.Found.{Found}
 use Rattle.table.specs.Find.{holds, foundIf, orElse, findFrom, findIn}
-use Rattle.table.specs.Order.{Before, All, Sorted, noRecord}
+use Rattle.table.specs.Order.{Before, All, Sorted}
 use Rattle.edges.specs.Sum.{Levelled}
 use Rattle.edges.specs.Row.{placed}
 

@@ -14,13 +14,13 @@ use Rattle.diagram.specs.Right.{Right}
 use Rattle.diagram.specs.Flat.{recordsFrom, flat, tableWords, edgeWords, edgeCount}
 use Rattle.diagram.proofs.Drawn.{table-right}
 use Rattle.diagram.proofs.Written.{flat-length, records-length, edges-count}
+use Rattle.diagram.proofs.Terms.{levels-length}
 use Rattle.encoding.specs.Boolean.{orders}
 use Rattle.encoding.specs.Pattern.{clauseWords, wordCount}
 use Rattle.encoding.proofs.Fits.{right-filled, words-count}
 use Rattle.encoding.proofs.Demand.{orders-le}
 use Rattle.constraint.specs.Lent.{termsOf, levelsOf, Lent}
 use Rattle.constraint.proofs.Slices.{levels-good, levels-count}
-use Rattle.constraint.proofs.Laws.{length-levels}
 use Rattle.edges.specs.Linked.{Finished, Linked}
 use Rattle.clauses.specs.Drawing.{Drawing, Drawn, Listed}
 use Rattle.clauses.proofs.Laws.{right-drawing}
@@ -54,7 +54,7 @@ module _ (cs ds rs : List ℕ) (L : Lent cs ds rs) (a : ℕ) where
   words-length = words-count ls top ns (right-filled ls (pos a) ns top R)
 
   orders-small : orders ls ≤ 960
-  orders-small = omega (arith, orders-le (termsOf cs ds) (L .limited), length-levels (termsOf cs ds), levels-count cs ds rs L, L .few)
+  orders-small = omega (arith, orders-le (termsOf cs ds) (L .limited), levels-length (termsOf cs ds), levels-count cs ds rs L, L .few)
 
   module _ (D : ℕ) (t : List ℕ) (count : ℕ) (e : Edge) (B : Tabled (constraintOf cs ds a) D e t count) where
     -- to the edge list

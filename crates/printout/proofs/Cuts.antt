@@ -7,7 +7,8 @@ use native.Mathlib.Numerals.{add-one}
 use native.Mathlib.Nat.{le-refl, le-trans}
 use native.Mathlib.Omega.{arith}
 use lib.ListN.{length, take, drop, set, length-append, length-take, length-drop, length-set, take-append-drop}
-use lib.Seq.{take-all, take-at, take-suc-set, take-append-le, drop-set-lt, drop-drop, length-take-le}
+use lib.Seq.{take-all, take-at, take-suc-set, take-append-le, drop-set-lt, length-take-le}
+use Rattle.word.proofs.Kept.{rest-later, Parts}
 use Rattle.printout.specs.Cut.{Wrote, Printed}
 
 -- a list that is cut already is cut no further
@@ -18,12 +19,6 @@ cut-append (suc n) (x ∷ xs) ys = ap (λ (l : List ℕ). x ∷ l) (cut-append n
 
 short-cut : (at : ℕ) (l : List ℕ) → length (take at l) ≤ length l
 short-cut at l = omega (arith, length-take at l)
-
--- lists that agree from a place on agree from every later one on
-pub drop-later : (p r : ℕ) (a b : List ℕ) → p ≤ r → drop p b ≡ drop p a → drop r b ≡ drop r a
-drop-later p r a b h e =
-    let q : r ≡ p + (r - p) = omega arith in
-    ap (λ (n : ℕ). drop n b) q ∙ sym (drop-drop (r - p) p b) ∙ ap (drop (r - p)) e ∙ drop-drop (r - p) p a ∙ ap (λ (n : ℕ). drop n a) (sym q)
 
 -- ---- A byte
 
@@ -68,7 +63,7 @@ wrote-then {xs} {ys} {a} {b} {c} {at} {p} {r} v w =
           ∙ ap (λ (l : List ℕ). take (length a) (l ++ ys)) (v .front)
           ∙ cut-append (length a) (take at a ++ xs) ys
           ∙ ap (take (length a)) (append-assoc (take at a) xs ys);
-      behind = w .behind ∙ drop-later p r a b (w .onward) (v .behind);
+      behind = w .behind ∙ rest-later a b p r (w .onward) (v .behind);
       kept = w .kept ∙ v .kept;
       onward = le-trans (v .onward) (w .onward);
       inside = λ h. subst (λ (n : ℕ). r ≤ n) (v .kept) (w .inside (subst (λ (n : ℕ). p ≤ n) (sym (v .kept)) (v .inside h)));
@@ -113,10 +108,6 @@ module _ {text before after : List ℕ} {r : ℕ} (p : Printed text before after
 
 -- ---- The whole, with what is left of it
 
--- a run of bytes begins with a piece, and more follows
-pub record Parts (whole piece more : List ℕ) : Type 0 where
-  pub joined : whole ≡ piece ++ more
-
 -- of the bytes bs, to be written from `start` on, those before the place `at` are in, and `rest` is left
 pub record Left (bs : List ℕ) (start : ℕ) (first rest : List ℕ) (at : ℕ) (out : List ℕ) : Type 0 where
   pub whole : take (length first) (take at out ++ rest) ≡ take (length first) (take start first ++ bs)
@@ -137,7 +128,7 @@ left-less {bs} {first} {rest} {piece} {more} {out} {after} {start} {at} {r} e l 
           ∙ cut-append (length first) (take at out ++ piece) more
           ∙ ap (take (length first)) (append-assoc (take at out) piece more ∙ ap (λ (x : List ℕ). take at out ++ x) (sym (e .joined)))
           ∙ l .whole;
-      behind = w .behind ∙ drop-later at r first out (w .onward) (l .behind);
+      behind = w .behind ∙ rest-later first out at r (w .onward) (l .behind);
       kept = w .kept ∙ l .kept;
       onward = le-trans (l .onward) (w .onward);
       inside = λ h. subst (λ (n : ℕ). r ≤ n) (l .kept) (w .inside (subst (λ (n : ℕ). at ≤ n) (sym (l .kept)) (l .inside h)));

@@ -20,7 +20,7 @@ use Rattle.diagram.specs.Table.{Node}
 use Rattle.diagram.specs.Claim.{nodeAt}
 use Rattle.diagram.specs.Flat.{edgeWords, edgeCount}
 use Rattle.diagram.specs.Constraint.{Constraint, Within}
-use Rattle.diagram.proofs.Terms.{levels-ascend}
+use Rattle.diagram.proofs.Terms.{levels-ascend, levels-length}
 use Rattle.diagram.proofs.Drawn.{table-right}
 use Rattle.diagram.proofs.Written.{Small}
 use Rattle.encoding.specs.Boolean.{orders}
@@ -28,7 +28,7 @@ use Rattle.encoding.specs.Pattern.{wordCount}
 use Rattle.encoding.proofs.Fits.{own-level}
 use Rattle.builder.proofs.Diagram.{label-ends}
 use Rattle.constraint.specs.Reading.{eachFrom, kindChecked, termChecked, countChecked, upTo, checked, stated}
-use Rattle.constraint.proofs.Laws.{checked-within, rest-fits, length-levels}
+use Rattle.constraint.proofs.Laws.{checked-within, rest-fits}
 use Rattle.encoder.specs.declared.Counts.{Counts}
 use Rattle.encoder.specs.declared.Encoded.{Encoded}
 use Rattle.encoder.specs.declared.Encoded.the-variants.{Accepted, Refused}
@@ -36,7 +36,7 @@ use Rattle.encoder.specs.Encoded.{levelsIn, nodesFor, rootFor, capacity, refuse
 use Rattle.encoder.proofs.Meant.{plain, edges-length}
 use Rattle.encoder.proofs.Answers.{countsOf}
 use Rattle.printout.specs.Text.{decimal, child, children, nodeLine, nodeLines, countsLine, refusalLine, nodesWord, edgesWord, wordsWord, refusedWord, atWord, newline, field, tooLong, badLength}
-use Rattle.printout.specs.Shown.{wordsIn, replyText, wordsText, shownIn, shown, Shows, Whole}
+use Rattle.printout.specs.Shown.{wordsIn, replyText, wordsText, shownIn, shown, Shows, ShowsAll}
 use Rattle.printout.proofs.Cuts.{printed-inside, printed-count}
 use Rattle.printout.proofs.Turns.{decimal-one, decimal-more}
 use Rattle.printout.proofs.Input.{words-length}
@@ -227,7 +227,7 @@ nodes-short c within few m h =
     let b = label-ends (levelsIn c) (levels-ascend (c .terms)) (c .bound) m (l .0) (l .2) in
     let r = rest-fits c within (l .0) in
     record {
-      level = omega (arith, l .2 .1, l .1, length-levels (c .terms), within .few);
+      level = omega (arith, l .2 .1, l .1, levels-length (c .terms), within .few);
       lower = omega (arith, b .0, b .1, r);
       upper = omega (arith, b .1, r);
       small = plain c within few m h .numbers;
@@ -273,7 +273,7 @@ shown-fits bs = go (ltb 264 (length bs)) refl (eqb (length bs % 4) 0)
 -- what is printed into that many bytes with that room is the whole text
 pub printed-whole : (bs t e w first t′ e′ w′ out : List ℕ) (r : ℕ) → length t ≡ 4096 → length e ≡ 8192 → length w ≡ 16384 → length first ≡ 131072
     → Shows bs t e w first t′ e′ w′ out r
-    → Whole bs t e w first t′ e′ w′ out r × ((r ≤ length out) × (r ≡ length (take r out)))
+    → ShowsAll bs t e w first t′ e′ w′ out r × ((r ≤ length out) × (r ≡ length (take r out)))
 printed-whole bs t e w first t′ e′ w′ out r a b c n s =
     let p = s .text in
     let q : take (length first) (shownIn bs (length t) (length e) (length w)) ≡ shown bs =

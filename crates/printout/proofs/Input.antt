@@ -12,11 +12,13 @@ use lib.Dec.{ltb}
 use lib.ListN.{length, getD, take, drop, set, length-take}
 use lib.Seq.{take-all, take-suc, take-suc-set, drop-set-lt}
 use borrow.Author.Tests.{eq-eqb, ne-eqb, lt-ltb, le-ltb, ltb-true, ltb-false}
+use Rattle.word.specs.Word.{ofBytes}
+use Rattle.word.proofs.Kept.{rest-later}
 use Rattle.encoder.specs.Encoded.{encoded, left}
 use Rattle.printout.specs.Text.{tooLong, badLength}
 use Rattle.printout.specs.Shown.{wordsIn, wordsText, shownIn, afterIn, Leaves, Shows}
 use Rattle.printout.specs.Cut.{Printed, Wrote}
-use Rattle.printout.proofs.Cuts.{wrote-as, drop-later, printed-of, printed, printed-front}
+use Rattle.printout.proofs.Cuts.{wrote-as, printed-of, printed, printed-front}
 
 pub words-length : (bs : List ℕ) → length (wordsIn bs) ≡ length bs / 4
 unfolding wordsIn
@@ -28,7 +30,7 @@ words-length (a ∷ b ∷ c ∷ d ∷ bs) = let h = words-length bs in omega ari
 
 -- the word of the four bytes from a place on
 abbrev pub wordAt : List ℕ → ℕ → ℕ
-wordAt bs i = getD bs i 0 * 0x1000000 + getD bs (i + 1) 0 * 0x10000 + getD bs (i + 2) 0 * 0x100 + getD bs (i + 3) 0
+wordAt bs i = ofBytes (getD bs i 0) (getD bs (i + 1) 0) (getD bs (i + 2) 0) (getD bs (i + 3) 0)
 
 shifted : (a b c d : ℕ) (bs : List ℕ) (m n : ℕ) → m ≡ suc (suc (suc (suc n))) → getD (a ∷ b ∷ c ∷ d ∷ bs) m 0 ≡ getD bs n 0
 shifted a b c d bs m n h = ap (λ (i : ℕ). getD (a ∷ b ∷ c ∷ d ∷ bs) i 0) h
@@ -70,7 +72,7 @@ read-more bs first ws k h l n r =
           ∙ ap₂ (λ (xs : List ℕ) (x : ℕ). xs ++ (x ∷ [])) (r .front) (sym (word-at bs k (omega (arith, words-length bs))))
           ∙ sym (take-suc (wordsIn bs) k 0 (omega (arith, words-length bs)))
           ∙ ap (λ (m : ℕ). take m (wordsIn bs)) (sym (add-one k));
-      behind = drop-set-lt (k + 1) ws k (wordAt bs (k * 4)) (omega arith) ∙ drop-later k (k + 1) first ws (omega arith) (r .behind);
+      behind = drop-set-lt (k + 1) ws k (wordAt bs (k * 4)) (omega arith) ∙ rest-later first ws k (k + 1) (omega arith) (r .behind);
       within = omega arith;
       full = omega arith;
     }

@@ -10,9 +10,9 @@ use lib.Dec.{ltb}
 use lib.ListN.{length, getD, drop, drop-of-length-le}
 use lib.Seq.{drop-cons}
 use borrow.Author.Tests.{lt-ltb, le-ltb, ltb-false}
+use Rattle.word.proofs.Kept.{Parts}
 use Rattle.diagram.specs.Flat.{edgeIn}
 use Rattle.printout.specs.Text.{decimalIn, decimal, child, children}
-use Rattle.printout.proofs.Cuts.{Parts}
 
 -- ---- Bytes
 

@@ -2,9 +2,10 @@
 use mathlib.Core.Path.{_≡_}
 use mathlib.Core.List.{List, [], _∷_, _++_}
 use mathlib.Core.Bool.{cond}
-use Prim.Native.Nat.{ℕ, _+_, _*_, _%_}
+use Prim.Native.Nat.{ℕ, _+_, _%_}
 use lib.Dec.{ltb, eqb}
 use lib.ListN.{length, drop}
+use Rattle.word.specs.Word.{ofBytes}
 use Rattle.diagram.specs.Table.{Node}
 use Rattle.diagram.specs.Flat.{tableWords, edgeWords}
 use Rattle.encoding.specs.Pattern.{clauseWords}
@@ -15,13 +16,13 @@ use Rattle.encoder.specs.Encoded.{levelsIn, nodesFor, rootFor, encoded, left}
 use Rattle.printout.specs.Cut.{Printed}
 use Rattle.printout.specs.Text.{nodeLines, countsLine, refusalLine, tooLong, badLength}
 
--- The words of bytes, four bytes a word, most significant first. Bytes past the last full word are ignored.
+-- The words of bytes, four bytes each; bytes that make no full word are passed over.
 unfoldable pub wordsIn : List ℕ → List ℕ
 wordsIn [] = []
 wordsIn (a ∷ []) = []
 wordsIn (a ∷ b ∷ []) = []
 wordsIn (a ∷ b ∷ c ∷ []) = []
-wordsIn (a ∷ b ∷ c ∷ d ∷ bs) = (a * 0x1000000 + b * 0x10000 + c * 0x100 + d) ∷ wordsIn bs
+wordsIn (a ∷ b ∷ c ∷ d ∷ bs) = ofBytes a b c d ∷ wordsIn bs
 
 -- The text for an encoder's reply, and for the nodes where it has accepted.
 abbrev pub replyText : Encoded → List Node → List ℕ
@@ -59,7 +60,7 @@ pub record Shows (bs t e w out t′ e′ w′ out′ : List ℕ) (r : ℕ) : Typ
       ≡ afterIn bs (length t) (length e) (length w) w (clauseWords (levelsIn (stated (wordsIn bs))) (rootFor (stated (wordsIn bs))) (nodesFor (stated (wordsIn bs))))
 
 -- THE PROMISE with the program's room: the same, and the whole text finds place.
-pub record Whole (bs t e w out t′ e′ w′ out′ : List ℕ) (r : ℕ) : Type 0 where
+pub record ShowsAll (bs t e w out t′ e′ w′ out′ : List ℕ) (r : ℕ) : Type 0 where
   pub shows : Shows bs t e w out t′ e′ w′ out′ r
   pub reply : r ≡ length (shown bs)
   pub text : out′ ≡ shown bs ++ drop r out

@@ -11,7 +11,7 @@ ghost use Rattle.diagram.specs.Table.{Node};
 ghost use Rattle.diagram.specs.Flat.{edgeIn};
 ghost use Rattle.diagram.proofs.Written.{firstPlace};
 ghost use Rattle.printout.specs.Text.{decimal, field, child, children, nodeLine, nodeLines, countsLine, refusalLine};
-ghost use Rattle.printout.specs.Shown.{wordsIn, replyText, wordsText, Leaves, Shows, Whole};
+ghost use Rattle.printout.specs.Shown.{wordsIn, replyText, wordsText, Leaves, Shows, ShowsAll};
 ghost use Rattle.printout.specs.Cut.{Wrote, Printed};
 ghost use Rattle.printout.specs.Lying.{Lying, LyingFor};
 
@@ -33,13 +33,6 @@ pub const CLAUSES: usize = 16384;
 // The program's buffer for its text, which is shorter in every case.
 pub const TEXT: usize = 131072;
 
-// The word of four bytes, most significant first.
-fn word_of(a: u8, b: u8, c: u8, d: u8) -> u32
-    ensures { λ r. ⌜ r ≡ a * 0x1000000 + b * 0x10000 + c * 0x100 + d ⌝ }
-{
-    a as u32 * 0x1000000 + b as u32 * 0x10000 + c as u32 * 0x100 + d as u32
-}
-
 // Puts the words of bytes at the start of a list, as far as there is room, and gives their number.
 pub fn words_of(bytes: &[u8], words: &mut [u32]) -> usize
     ensures { λ r. ⌜ Printed (wordsIn (now (bytes .entry))) (now (words .entry)) (now (words .exit)) r ⌝ }
@@ -51,7 +44,7 @@ pub fn words_of(bytes: &[u8], words: &mut [u32]) -> usize
             return k;
         }
         let b = k * 4;
-        words[k] = word_of(bytes[b], bytes[b + 1], bytes[b + 2], bytes[b + 3]);
+        words[k] = word::word_of(bytes[b], bytes[b + 1], bytes[b + 2], bytes[b + 3]);
         k += 1;
     }
     k
@@ -274,7 +267,7 @@ pub fn show(
     clauses: &mut [u32; CLAUSES],
     out: &mut [u8; TEXT],
 ) -> usize
-    ensures { λ r. ⌜ Whole (now (input .entry)) (now (table .entry)) (now (edges .entry)) (now (clauses .entry)) (now (out .entry)) (now (table .exit)) (now (edges .exit)) (now (clauses .exit)) (now (out .exit)) r ⌝ }
+    ensures { λ r. ⌜ ShowsAll (now (input .entry)) (now (table .entry)) (now (edges .entry)) (now (clauses .entry)) (now (out .entry)) (now (table .exit)) (now (edges .exit)) (now (clauses .exit)) (now (out .exit)) r ⌝ }
     ensures { λ r. ⌜ (r ≤ length (now (out .exit))) × (r ≡ length (take r (now (out .exit)))) ⌝ }
 {
     print(

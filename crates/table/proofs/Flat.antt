@@ -6,8 +6,8 @@ use native.Mathlib.Nat.{not-suc-le-zero, le-of-suc-le-suc}
 use native.Mathlib.Omega.{arith}
 use lib.ListN.{length, getD}
 use lib.Seq.{getD-take, length-take-le}
-use Rattle.word.specs.Record.{Record, records}
-use Rattle.table.specs.Order.{used, noRecord}
+use Rattle.word.specs.Record.{Record, records, noRecord}
+use Rattle.table.specs.Order.{used}
 
 -- The record that four words make.
 abbrev pub recordOf : ℕ → ℕ → ℕ → ℕ → Record

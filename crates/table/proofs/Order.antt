@@ -5,8 +5,8 @@ use mathlib.Core.List.{List, [], _∷_}
 use Prim.Native.Nat.{ℕ, zero, suc, _≤_, _<_, zero-le, suc-le-suc}
 use native.Mathlib.Nat.{not-suc-le-zero, le-of-suc-le-suc}
 use lib.ListN.{length, getD}
-use Rattle.word.specs.Record.{Record}
-use Rattle.table.specs.Order.{Before, Proper, Among, All, Sorted, noRecord, insertAt}
+use Rattle.word.specs.Record.{Record, noRecord}
+use Rattle.table.specs.Order.{Before, Proper, Among, All, Sorted, insertAt}
 
 -- What holds of all holds of each number's record.
 pub all-at : (P : Record → Type 0) (xs : List Record) → All P xs → (k : ℕ) → k < length xs → P (getD xs k noRecord)

@@ -10,11 +10,11 @@ use native.Mathlib.Omega.{arith}
 use lib.Dec.{eqb, leb}
 use lib.ListN.{length, getD}
 use borrow.Author.Tests.{eqb-true, leb-true, eq-eqb, le-leb}
-use Rattle.word.specs.Record.{Record}
+use Rattle.word.specs.Record.{Record, noRecord}
 use Rattle.table.specs.declared.Found.{Found}
 use Rattle.table.specs.declared.Found.the-variants.{At, Nothing}
 use Rattle.table.specs.Find.{fieldsHold, holds, foundIf, orElse, findFrom, findIn}
-use Rattle.table.specs.Order.{Among, noRecord}
+use Rattle.table.specs.Order.{Among}
 use Rattle.table.proofs.Order.{at-among}
 
 -- THE TEST of a record's fields is true just where the level is the wanted one and the label holds r.

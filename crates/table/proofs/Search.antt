@@ -10,10 +10,10 @@ use native.Mathlib.Omega.{arith}
 use lib.ListN.{length, getD}
 use lib.Dec.{ltb}
 use borrow.Author.Tests.{ltb-true, ltb-false, lt-ltb, le-ltb}
-use Rattle.word.specs.Record.{Record}
+use Rattle.word.specs.Record.{Record, noRecord}
 use Rattle.table.specs.declared.Found.the-variants.{At, Nothing}
 use Rattle.table.specs.Find.{fieldsHold, holds, findIn}
-use Rattle.table.specs.Order.{used, key, Before, Sorted, noRecord, Placed}
+use Rattle.table.specs.Order.{used, key, Before, Sorted, Placed}
 use Rattle.table.proofs.Flat.{used-at}
 use Rattle.table.proofs.Order.{sorted-at, proper-at, Standing}
 use Rattle.table.proofs.Says.{fields-hold, NoneBefore, find-none, find-first}

@@ -5,7 +5,7 @@ use mathlib.Core.Logic.{_⊎_}
 use mathlib.Core.Path.{_≡_}
 use mathlib.Core.List.{List, [], _∷_}
 use lib.ListN.{length, getD, take}
-use Rattle.word.specs.Record.{Record, records}
+use Rattle.word.specs.Record.{Record, records, noRecord}
 
 -- The first n records of a list of words.
 abbrev pub used : List ℕ → ℕ → List Record
@@ -36,9 +36,6 @@ All P (x ∷ xs) = P x × All P xs
 unfoldable pub Sorted : List Record → Type 0
 Sorted [] = Unit
 Sorted (x ∷ xs) = Proper x × All (Before x) xs × Sorted xs
-
-abbrev pub noRecord : Record
-noRecord = record { level = 0; lower = 0; upper = 0; first = 0 }
 
 -- The first p records lie wholly before x at the level, and no other does.
 pub record Placed (xs : List Record) (level x p : ℕ) : Type 0 where

@@ -10,6 +10,10 @@ pub record Record : Type 0 where
   pub upper : ℕ
   pub first : ℕ
 
+-- What stands where there is no record.
+abbrev pub noRecord : Record
+noRecord = record { level = 0; lower = 0; upper = 0; first = 0 }
+
 abbrev pub recordWords : ℕ
 recordWords = 4
 

@@ -1,7 +1,7 @@
--- THE WORDS of document 01. A word is a number below 2^32; its top two bits are the kind, the other 30 the payload.
+-- THE WORDS of document 01: numbers below 2^32, split into a KIND of two bits and a PAYLOAD of thirty, and what the payload of each kind says.
 -- Assumes nothing.
 use mathlib.Core.Bool.{Bool, true, false}
-use Prim.Native.Nat.{ℕ, _+_, _/_, _%_}
+use Prim.Native.Nat.{ℕ, _+_, _*_, _/_, _%_}
 use lib.Dec.{leb}
 
 abbrev pub kind : ℕ → ℕ
@@ -10,7 +10,7 @@ kind w = w / 0x40000000
 abbrev pub payload : ℕ → ℕ
 payload w = w % 0x40000000
 
--- A term (kind 1): payload bits 29 to 16 hold the domain end, bits 15 to 0 the coefficient.
+-- A term (kind 1) has its domain end above its coefficient, which takes the low sixteen bits.
 abbrev pub domainEnd : ℕ → ℕ
 domainEnd w = payload w / 0x10000
 
@@ -40,3 +40,7 @@ endWord k = 0xC0000000 + k
 -- The greatest count that an end word can hold.
 abbrev pub lastCount : ℕ
 lastCount = 1073741823
+
+-- The word that four bytes make, the first of them the highest.
+abbrev pub ofBytes : ℕ → ℕ → ℕ → ℕ → ℕ
+ofBytes a b c d = a * 0x1000000 + b * 0x10000 + c * 0x100 + d

@@ -1,10 +1,10 @@
 // Words: kind and payload, the words that the encoder writes, and the three numbers that must not be taken for each other.
 ghost use mathlib.Core.Path.{_≡_};
 ghost use mathlib.Core.Bool.{true, false};
-ghost use Prim.Native.Nat.{ℕ, _+_, _≤_};
-ghost use Rattle.word.specs.Word.{kind, payload, domainEnd, boolean, negated, lastBoolean, literalWord, lastCount, endWord};
+ghost use Prim.Native.Nat.{_+_, _≤_};
+ghost use Rattle.word.specs.Word.{kind, payload, domainEnd, boolean, negated, lastBoolean, literalWord, lastCount, endWord, ofBytes};
 ghost use Rattle.word.specs.Padded.{cleared};
-ghost use Rattle.word.specs.Edge.{Edge, to, edgeWord, edgeBoolean, edgeOf};
+ghost use Rattle.word.specs.Edge.{to, edgeWord, edgeBoolean, edgeOf};
 
 // A Boolean variable, from 1.
 pub struct Variable(pub u32);
@@ -37,6 +37,13 @@ pub fn payload_of(w: u32) -> u32
     ensures { λ r. ⌜ r ≡ payload w ⌝ }
 {
     w % 0x40000000
+}
+
+// The word of four bytes, the first of them the highest.
+pub fn word_of(a: u8, b: u8, c: u8, d: u8) -> u32
+    ensures { λ r. ⌜ r ≡ ofBytes a b c d ⌝ }
+{
+    a as u32 * 0x1000000 + b as u32 * 0x10000 + c as u32 * 0x100 + d as u32
 }
 
 // A term's domain end.
