@@ -1,4 +1,4 @@
--- THE COMPARER SAYS YES if and only if the bytes are the bytes of the words: the test of two lists is true just where they are equal, by induction.
+-- THE COMPARER'S TEST is equality of lists, by induction: so it is true just for the bytes of the words.
 -- Assumes nothing.
 use mathlib.Core.Path.{_≡_, refl, sym, ap₂}
 use mathlib.Core.Logic.{_↔_}

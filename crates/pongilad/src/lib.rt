@@ -128,7 +128,7 @@ pub extern "C" fn pongilad_test(values: &[u8], clauses: &[u32]) -> TestedReply
     tested_reply(x)
 }
 
-// 1 where the bytes are the words, most significant byte first, with none left over; otherwise 0.
+// What the file comparer says: 1 for yes, 0 for no.
 #[no_mangle]
 pub extern "C" fn pongilad_compare(bytes: &[u8], words: &[u32]) -> u64
     ensures { λ r. ⌜ r ≡ comparedField (sameBytes (now (bytes .entry)) (now (words .entry))) ⌝ }
