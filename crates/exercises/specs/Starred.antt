@@ -5,12 +5,13 @@ use mathlib.Core.Path.{_≡_, refl}
 use mathlib.Core.List.{List, [], _∷_, map}
 use Prim.Native.Nat.{ℕ}
 use Rattle.word.specs.Edge.{Edge, F, T, to}
+use Rattle.word.specs.Record.{flat}
 use Rattle.refusal.specs.Table.{numberOf, placeOf}
 use Rattle.refusal.specs.declared.Checked.{Checked}
 use Rattle.refusal.specs.declared.Checked.the-variants.{Passed, Refused}
 use Rattle.diagram.specs.Label.{overlap, labelOf}
 use Rattle.diagram.specs.Table.{Node, insert, place, addKey, addRow, keysBelow, rootKeys, edgeTo, row, nodeOf, nodesFrom, table, root}
-use Rattle.diagram.specs.Flat.{recordsFrom, flat, tableWords, edgeWords, edgeCount}
+use Rattle.diagram.specs.Flat.{recordsFrom, tableWords, edgeWords, edgeCount}
 use Rattle.diagram.specs.Constraint.{Constraint, levels}
 use Rattle.encoding.specs.Pattern.{clauseWords, orderWords, nodeWords, wordCount}
 use Rattle.constraint.specs.Reading.{eachFrom, checked, stated}

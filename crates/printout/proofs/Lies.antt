@@ -5,13 +5,14 @@ use Prim.Native.Nat.{ℕ, _-_, _≤_}
 use native.Mathlib.Omega.{arith}
 use lib.ListN.{length, take, replicate, length-append}
 use lib.Seq.{take-all, take-at}
-use Rattle.word.specs.Record.{Record}
+use Rattle.word.specs.Record.{Record, flat}
 use Rattle.word.specs.Padded.{padded}
+use Rattle.word.proofs.Records.{flat-records, flat-length}
 use Rattle.refusal.specs.declared.Checked.{Checked}
 use Rattle.refusal.specs.declared.Checked.the-variants as check
-use Rattle.diagram.specs.Flat.{recordsFrom, flat, tableWords, edgeWords, edgeCount}
+use Rattle.diagram.specs.Flat.{recordsFrom, tableWords, edgeWords, edgeCount}
 use Rattle.diagram.specs.Constraint.{Constraint, Within}
-use Rattle.diagram.proofs.Written.{flat-records, flat-length, records-length}
+use Rattle.diagram.proofs.Written.{records-length}
 use Rattle.table.specs.Order.{used}
 use Rattle.constraint.specs.Reading.{checked, stated}
 use Rattle.constraint.proofs.Laws.{checked-within}

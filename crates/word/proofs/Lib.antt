@@ -1,3 +1,4 @@
--- Laws of lent memory that other crates' proofs cite.
+-- Laws of records and of lent memory that other crates' proofs cite.
+pub mod Records
 pub mod Cleared
 pub mod Kept
