@@ -35,9 +35,10 @@ fn step(s: Search, n: Node, count: usize, level: u32, r: Remainder) -> Search
             reply: Found::At(NodeNumber(k)),
         };
     }
+    let next = k + 1;
     let reply = s.reply;
     Search {
-        next: k + 1,
+        next: next,
         reply: reply,
     }
 }

@@ -14,8 +14,8 @@ returns c =
     ap (λ (b : Bool). moved b (c .before .before .args .s) (c .before .before .args .count))
     (sym (c .if1 .taken) ∙ c .before .holds .ensures)
 
-add-t11 : tie.Need-add-t11
-add-t11 c = search needs
+add-next : tie.Need-add-next
+add-next c = search needs
 
 returns-2 : tie.Need-returns-2
 returns-2 c =
@@ -23,4 +23,4 @@ returns-2 c =
     (sym (c .if1 .left) ∙ c .before .holds .ensures)
 
 pub step-spec : {M : Type 1} → statement M
-step-spec = tie.close (tie.spec holds-requires returns add-t11 returns-2)
+step-spec = tie.close (tie.spec holds-requires returns add-next returns-2)
