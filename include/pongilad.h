@@ -5,7 +5,8 @@
  * pongilad_encode takes up to about 300 KB of stack (measured, not proved); the other calls take next to none.
  *
  * LISTS AND LENGTHS
- *   A list is a pointer followed by its length. The length counts elements: 32-bit words for uint32_t, bytes for uint8_t.
+ *   A list is a pointer followed by its length. The length counts elements: 32-bit words for uint32_t, bytes for uint8_t,
+ *   records for pongilad_node.
  *   Words are in the machine's own byte order.
  *   Any length is legal, also 0 and lengths that are no multiple of 4.
  *   The caller sees to it that
@@ -66,6 +67,11 @@ extern "C" {
 /* The most nodes that a table takes, however long it is. */
 #define PONGILAD_NODES 65536
 
+/* A node record as a struct: the four words of a record in the table, in their order. */
+typedef struct {
+    uint32_t level, lower, upper, first;
+} pongilad_node;
+
 /* What pongilad_encode replies.
  *   number  0: accepted; 1 to 9: the number of the refusal
  *   place   the place of the refusal; 0 where accepted
@@ -76,7 +82,7 @@ typedef struct {
     uint64_t number, place, nodes, edges, words;
 } pongilad_encoded;
 
-/* What pongilad_find replies.
+/* What pongilad_find and pongilad_find_node reply.
  *   found   1 where there is such a record, 0 where there is none
  *   number  the record's number, from 0; 0 where there is none */
 typedef struct {
@@ -109,6 +115,10 @@ pongilad_encoded pongilad_encode(const uint32_t *words, size_t words_length, uin
  * Words behind the last full record of four are not read. Every table is legal, also one that no encoder wrote; words of 0 behind
  * the nodes are records of level 0 with the label 0 to 0. */
 pongilad_found pongilad_find(const uint32_t *table, size_t table_length, uint32_t level, uint32_t remainder);
+
+/* Finds the same in a table that is a list of records: nodes_length counts records, not words. The reply is that of pongilad_find
+ * on the flat table of the same words. */
+pongilad_found pongilad_find_node(const pongilad_node *nodes, size_t nodes_length, uint32_t level, uint32_t remainder);
 
 /* Tests the clauses under the values: byte v - 1 is the value of Boolean v, 0 or 1.
  * All bytes and all words are checked before any clause is tested. A clause without literals is counted and passes as true. */

@@ -1,11 +1,13 @@
 // The calls of the static library, for C and Rust: each slice is a pointer and a length, each reply a struct of numbers. include/pongilad.h is their C side.
 use encoder::Encoded;
+use nodes::Node;
 use table::Found;
 use tester::Tested;
 use word::Remainder;
 ghost use mathlib.Core.Path.{_≡_};
 ghost use Rattle.word.specs.Record.{records};
 ghost use Rattle.table.specs.Find.{findIn};
+ghost use Rattle.nodes.specs.Nodes.{recordsOf};
 ghost use Rattle.comparer.specs.Bytes.{sameBytes};
 ghost use Rattle.tester.specs.Tested.{tested};
 ghost use Rattle.pongilad.specs.Fields.{encodedFields, foundFields, testedFields, comparedField, Encodes};
@@ -116,6 +118,15 @@ pub extern "C" fn pongilad_find(table: &[u32], level: u32, remainder: u32) -> Fo
     ensures { λ r. ⌜ r ≡ foundFields (findIn (records (now (table .entry))) level remainder) ⌝ }
 {
     let x = table::find(table, level, Remainder(remainder));
+    found_reply(x)
+}
+
+// The same for a table that is a list of records.
+#[no_mangle]
+pub extern "C" fn pongilad_find_node(nodes: &[Node], level: u32, remainder: u32) -> FoundReply
+    ensures { λ r. ⌜ r ≡ foundFields (findIn (recordsOf (now (nodes .entry))) level remainder) ⌝ }
+{
+    let x = nodes::find(nodes, level, Remainder(remainder));
     found_reply(x)
 }
 

@@ -12,6 +12,15 @@ pub struct Encoded {
 
 #[repr(C)]
 #[derive(Clone, Copy, Debug, PartialEq, Eq)]
+pub struct Node {
+    pub level: u32,
+    pub lower: u32,
+    pub upper: u32,
+    pub first: u32,
+}
+
+#[repr(C)]
+#[derive(Clone, Copy, Debug, PartialEq, Eq)]
 pub struct Found {
     pub found: u64,
     pub number: u64,
@@ -37,6 +46,7 @@ extern "C" {
         w: usize,
     ) -> Encoded;
     fn pongilad_find(table: *const u32, n: usize, level: u32, remainder: u32) -> Found;
+    fn pongilad_find_node(nodes: *const Node, n: usize, level: u32, remainder: u32) -> Found;
     fn pongilad_test(values: *const u8, v: usize, clauses: *const u32, w: usize) -> Tested;
     fn pongilad_compare(bytes: *const u8, b: usize, words: *const u32, w: usize) -> u64;
 }
@@ -50,6 +60,11 @@ pub fn encode(words: &[u32], table: &mut [u32], edges: &mut [u32], clauses: &mut
 /// The finder.
 pub fn find(table: &[u32], level: u32, remainder: u32) -> Found {
     unsafe { pongilad_find(table.as_ptr(), table.len(), level, remainder) }
+}
+
+/// The finder over records.
+pub fn find_node(nodes: &[Node], level: u32, remainder: u32) -> Found {
+    unsafe { pongilad_find_node(nodes.as_ptr(), nodes.len(), level, remainder) }
 }
 
 /// The clause tester.

@@ -39,7 +39,7 @@ fn main() {
     report("larger constraints", &encoder::larger(&mut r, 80));
     report("damaged constraints", &encoder::damaged(&mut r, 3_000));
     let (finds, hits) = others::finder(&mut r, 1_000);
-    println!("finder: {finds} calls, {hits} found");
+    println!("finder, over words and over records: {finds} calls each, {hits} found");
     let tested = others::tester(&mut r, 8_000);
     println!(
         "clause tester: {} calls (all true {}, a clause {}, refused by number {})",

@@ -2,23 +2,28 @@
 
 use crate::call::{both, differ, hex};
 use crate::inputs::constraint;
-use archive::{Found, Tested};
+use archive::{Found, Node, Tested};
 use reference::random::Random;
 use reference::test::Verdict;
 use reference::{maps, sums};
 
-/// The finder on both sides; true where it finds.
+/// The full records of a table.
+fn nodes(table: &[u32]) -> Vec<Node> {
+    table.chunks_exact(4).map(|w| Node { level: w[0], lower: w[1], upper: w[2], first: w[3] }).collect()
+}
+
+/// The finder on both sides, and ours over the flat table and over its records; true where it finds.
 pub fn find_both(table: &[u32], level: u32, remainder: u32) -> bool {
-    let ours = archive::find(table, level, remainder);
     let other = reference::find::find(table, level, remainder);
     let wanted = Found { found: other.is_some() as u64, number: other.unwrap_or(0) };
-    if ours != wanted {
+    let ours = [archive::find(table, level, remainder), archive::find_node(&nodes(table), level, remainder)];
+    if ours != [wanted; 2] {
         differ("the finder", format!("level {level} remainder {remainder} table {}\narchive {ours:?} reference {wanted:?}", hex(table)));
     }
     other.is_some()
 }
 
-/// The finder on tables of the encoder and on any words: calls and hits.
+/// The finder in both forms, on tables of the encoder and on any words: questions and hits.
 pub fn finder(r: &mut Random, rounds: u64) -> (u64, u64) {
     let (mut calls, mut hits) = (0, 0);
     let mut ask = |table: &[u32], level, remainder| {
