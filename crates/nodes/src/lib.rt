@@ -23,7 +23,7 @@ struct Search {
     reply: Found,
 }
 
-// The search after its next record of so many. A hit leaves none to read.
+// The search after its next record, n, of count: a hit leaves no record to read.
 fn step(s: Search, n: Node, count: usize, level: u32, r: Remainder) -> Search
     requires { ⌜ s .next < count ⌝ }
     ensures { λ t. ⌜ t ≡ stepped s n count level (r .0) ⌝ }
