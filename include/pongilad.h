@@ -2,7 +2,7 @@
  *
  * Link with libpongilad.a (x86-64 Linux). Each call is proved, for every input and every length, to reply and to leave the lent
  * lists as its definition says; the definitions are in crates/pongilad/specs. No call allocates, keeps a pointer or prints.
- * pongilad_encode takes up to about 300 KB of stack (measured, not proved); the other calls take next to none.
+ * pongilad_encode takes up to about 30 KB of stack (measured, not proved); the other calls take next to none.
  *
  * LISTS AND LENGTHS
  *   A list is a pointer followed by its length. The length counts elements: 32-bit words for uint32_t, bytes for uint8_t,
@@ -13,7 +13,7 @@
  *     - a pointer is not null, also where the length is 0, and is aligned for its element;
  *     - that many elements are there and are set, and may be written where the pointer is not const;
  *     - a list that may be written shares no memory with another list of the same call;
- *     - nothing else writes the lists while the call runs.
+ *     - nothing else writes the lists while the call runs, nor reads those that may be written.
  *
  * WORDS
  *   The top two bits of a word are its kind, the other 30 its payload.
@@ -112,12 +112,13 @@ pongilad_encoded pongilad_encode(const uint32_t *words, size_t words_length, uin
                                  size_t edges_length, uint32_t *clauses, size_t clauses_length);
 
 /* Finds the first record of the level whose label holds the remainder: lower end <= remainder <= upper end.
- * Words behind the last full record of four are not read. Every table is legal, also one that no encoder wrote; words of 0 behind
+ * Words behind the last full record of four are not read. Every table is legal, of any length and also one that no encoder wrote; words of 0 behind
  * the nodes are records of level 0 with the label 0 to 0. */
 pongilad_found pongilad_find(const uint32_t *table, size_t table_length, uint32_t level, uint32_t remainder);
 
 /* Finds the same in a table that is a list of records: nodes_length counts records, not words. The reply is that of pongilad_find
- * on the flat table of the same words. */
+ * on the flat table of the same words. A table that pongilad_encode wrote may be lent as (const pongilad_node *)table with
+ * table_length / PONGILAD_RECORD records. */
 pongilad_found pongilad_find_node(const pongilad_node *nodes, size_t nodes_length, uint32_t level, uint32_t remainder);
 
 /* Tests the clauses under the values: byte v - 1 is the value of Boolean v, 0 or 1.

@@ -1,5 +1,6 @@
 -- The steps of building, one law for each place of the code. Assumes nothing.
 use mathlib.Core.Path.{_≡_, refl, sym, ap, ap₂, subst, subst₂, _∙_}
+use mathlib.Core.Logic.{_↔_, _⊎_, inl, inr, ⊎-elim}
 use mathlib.Core.List.{List}
 use mathlib.Core.Bool.{Bool, true, false}
 use Prim.Native.Nat.{ℕ, suc, _+_, _-_, _*_, _/_, _≤_, _<_}
@@ -11,10 +12,12 @@ use Rattle.word.specs.declared.Remainder.{Remainder}
 use Rattle.word.specs.Record.{Record, noRecord}
 use Rattle.table.specs.declared.Found.the-variants.{At, Nothing}
 use Rattle.table.specs.Find.{findIn}
-use Rattle.table.specs.Order.{used, Placed, insertAt}
+use Rattle.table.specs.Order.{used, Among}
 use Rattle.table.proofs.Flat.{recordAt, used-length, used-at}
 use Rattle.table.proofs.Order.{among-at}
 use Rattle.table.proofs.Says.{find-says, nothing-holds}
+use Rattle.runs.specs.Runs.{view, PutIn}
+use Rattle.runs.proofs.Views.{view-length, view-sorted, used-view}
 use Rattle.constraint.specs.Lent.{levelsOf, Lent}
 use Rattle.constraint.proofs.Slices.{levels-count, dom-at, off-at, term-at, rest-at, rest-small, product-at, level-left}
 use Rattle.diagram.specs.Level.{Level, AllAscend, R}
@@ -29,10 +32,11 @@ use Rattle.builder.specs.declared.Branch.the-variants.{False, True, On}
 use Rattle.builder.specs.declared.Built.{Built}
 use Rattle.builder.specs.declared.Built.the-variants.{Done, Full}
 use Rattle.builder.specs.Branch.{ends, labelOf, pick, branchOf, cutOf, overlapOf}
-use Rattle.builder.specs.Store.{Noded, NeedsMore}
-use Rattle.builder.specs.Built.{good, Ready, Good, PutOk, NodeDone, NodeOk, CutBy, RowDone, RowOk}
+use Rattle.builder.specs.Store.{Right, Noded, NeedsMore}
+use Rattle.builder.specs.Built.{good, Ready, Two, Good, PutOk, NodeDone, NodeOk, CutBy, RowDone, RowOk}
 use Rattle.builder.proofs.Cuts.{Cut, cut-F, cut-T, cut-on, cut-end, cut-step, row-label}
-use Rattle.builder.proofs.Stores.{held, noded-found, rowed-end, rowed-skip, rowed-node, Free, free-kept, noded-new, needs-more, child-needs, later-needs}
+use Rattle.builder.proofs.Stores.{recordFor, held, noded-found, rowed-end, rowed-skip, rowed-node, Free, free-kept, noded-new, needs-more, child-needs, later-needs}
+use Rattle.builder.proofs.Puts.{place-in, settled-same, two-put, put-adds}
 
 -- ---- The branch of a child
 
@@ -104,34 +108,37 @@ module _ (cs ds rs : List ℕ) where
 
   -- ---- A found node
 
-  pub found-ok : (t : List ℕ) (count i r k : ℕ) → Good cs ds rs t count → findIn (used t count) (i + 1) r ≡ At (record { 0 = k })
-      → (k * 4 + 3 < length t) × ((e : Ends) → e ≡ ends (getD t (k * 4 + 1) 0) (getD t (k * 4 + 2) 0) → NodeDone cs ds rs i r t count t count e)
-  found-ok t count i r k G f =
+  pub found-ok : (t : List ℕ) (m count w i r k : ℕ) → Good cs ds rs t m count w → findIn (used t count) (i + 1) r ≡ At (record { 0 = k })
+      → (k * 4 + 3 < length t) × ((e : Ends) → e ≡ ends (getD t (k * 4 + 1) 0) (getD t (k * 4 + 2) 0) → NodeDone cs ds rs i r t count w t m count e)
+  found-ok t m count w i r k G f =
+      let room = G .two .runs .room in
       let h = find-says (used t count) (i + 1) r k f in
-      let n = used-length t count (G .room) in
-      let w : k < count = omega (arith, h .0) in
+      let n = used-length t count room in
+      let l : k < count = omega (arith, h .0) in
       let x : Record = getD (used t count) k noRecord in
-      let at : x ≡ recordAt t k = used-at t count (G .room) k w in
+      let at : x ≡ recordAt t k = used-at t count room k l in
       let lev : x .level ≡ suc i = omega (arith, h .1) in
       let m = among-at (used t count) k (h .0) in
       let d = held ls (good cs ds) x i r (G .store .right x m) lev (h .2) (h .3) in
       let here : label (drop i ls) r ≡ labelOf (ends (getD t (k * 4 + 1) 0) (getD t (k * 4 + 2) 0)) = d .2 ∙ ap (λ (y : Record). labelOf (ends (y .lower) (y .upper))) at in (
-        omega (arith, G .room),
+        omega (arith, room),
         λ e is. record {
           lab = ap labelOf is ∙ sym here;
-          flat = record { room = G .room; long = refl };
+          long = refl;
+          two = G .two;
           noded = noded-found ls (good cs ds) i r (used t count) x (G .store) m lev (h .2) (h .3);
         },
       )
 
   -- ---- A row
 
-  pub row-end-ok : (i r j : ℕ) (e : Ends) (t : List ℕ) (count : ℕ) → Ready cs ds rs i → Good cs ds rs t count → getD ds i 0 < j → RowDone cs ds rs i r j e t count t count e
-  row-end-ok i r j e t count rd G h =
+  pub row-end-ok : (i r j : ℕ) (e : Ends) (t : List ℕ) (m count w : ℕ) → Ready cs ds rs i → Good cs ds rs t m count w → getD ds i 0 < j → RowDone cs ds rs i r j e t count w t m count e
+  row-end-ok i r j e t m count w rd G h =
       let k : levelAt ls i .dom < j = omega (arith, dom-at cs ds rs (rd .lent) i (rd .level)) in
       record {
         cut = cut-end ls (good cs ds) i r j e k;
-        flat = record { room = G .room; long = refl };
+        long = refl;
+        two = G .two;
         rowed = rowed-end ls (good cs ds) i r j (used t count) (G .store) k;
       }
 
@@ -164,16 +171,17 @@ module _ (cs ds rs : List ℕ) where
             )
         go (On c m) n k = absurd (n c m refl)
 
-    pub row-skip-ok : (e : Ends) (b : Branch) (t : List ℕ) (count : ℕ) (t″ : List ℕ) (x : Built) → b ≡ branchOf (getD cs i 0) (getD rs (i + 1) 0) r j
-        → ((c : Remainder) (m : ℕ) → b ≡ On c m → ⊥) → (y : Ends) → y ≡ cutOf e b → RowOk cs ds rs i r (j + 1) y t count t″ x → RowOk cs ds rs i r j e t count t″ x
-    row-skip-ok e b t count t″ (Done n z) is none y cut ok =
+    pub row-skip-ok : (e : Ends) (b : Branch) (t : List ℕ) (count w : ℕ) (t″ : List ℕ) (x : Built) → b ≡ branchOf (getD cs i 0) (getD rs (i + 1) 0) r j
+        → ((c : Remainder) (m : ℕ) → b ≡ On c m → ⊥) → (y : Ends) → y ≡ cutOf e b → RowOk cs ds rs i r (j + 1) y t count w t″ x → RowOk cs ds rs i r j e t count w t″ x
+    row-skip-ok e b t count w t″ (Done m n z) is none y cut ok =
         let s = skip-cut e b is none in
         record {
           cut = cut-step ls (good cs ds) i r j e y z dom-in (subst (Cut (drop (suc i) ls) (ascend-drop ls (suc i) (good cs ds)) r (levelAt ls i .off j) e) (sym cut) (s .0)) (ok .cut);
-          flat = ok .flat;
+          long = ok .long;
+          two = ok .two;
           rowed = rowed-skip ls (good cs ds) i r j (used t count) (used t″ n) (s .1) (ok .rowed);
         }
-    row-skip-ok e b t count t″ Full is none y cut ok = ok
+    row-skip-ok e b t count w t″ Full is none y cut ok = ok
 
     -- a child that is a node
     module _ (c : Remainder) (m : ℕ) (k : OnCase (getD cs i 0) (getD rs (i + 1) 0) r j c m) where
@@ -202,37 +210,73 @@ module _ (cs ds rs : List ℕ) where
           (omega (arith, b .0, b .1, b .2, k .by, rest-is), omega (arith, b .2, k .by, rest-is))
 
       -- no room for a child
-      pub row-full-ok : (t : List ℕ) (count : ℕ) → NodeOk cs ds rs (i + 1) (c .0) t count t Full → NeedsMore ls (good cs ds) (length t / 4) i r (used t count)
-      row-full-ok t count ok =
+      pub row-full-ok : (t : List ℕ) (count w : ℕ) → NodeOk cs ds rs (i + 1) (c .0) t count w t Full → NeedsMore ls (good cs ds) (length t / 4) i r (used t count)
+      row-full-ok t count w ok =
           let o : i + 1 ≡ suc i = omega arith in
           child-needs ls (good cs ds) (length t / 4) i r j (used t count) (used t count) (level-in i rd) dom-in taken
           (subst₂ (λ (n x : ℕ). NeedsMore ls (good cs ds) (length t / 4) n x (used t count)) o left-is ok)
 
-      pub row-node-ok : (e s : Ends) (t : List ℕ) (count : ℕ) (t′ : List ℕ) (n : ℕ) (t″ : List ℕ) (x : Built) → NodeDone cs ds rs (i + 1) (c .0) t count t′ n s
-          → (y : Ends) → y ≡ overlapOf e s m → RowOk cs ds rs i r (j + 1) y t′ n t″ x → RowOk cs ds rs i r j e t count t″ x
-      row-node-ok e s t count t′ n t″ (Done n′ z) d y is ok =
+      pub row-node-ok : (e s : Ends) (t : List ℕ) (count w : ℕ) (t′ : List ℕ) (m′ n : ℕ) (t″ : List ℕ) (x : Built) → NodeDone cs ds rs (i + 1) (c .0) t count w t′ m′ n s
+          → (y : Ends) → y ≡ overlapOf e s m → RowOk cs ds rs i r (j + 1) y t′ n w t″ x → RowOk cs ds rs i r j e t count w t″ x
+      row-node-ok e s t count w t′ m′ n t″ (Done m″ n′ z) d y is ok =
           let o : i + 1 ≡ suc i = omega arith in
-          let N : Noded ls (good cs ds) (suc i) (r - levelAt ls i .off j) (used t count) (used t′ n) = subst₂ (λ (w v : ℕ). Noded ls (good cs ds) w v (used t count) (used t′ n)) o left-is (d .noded) in
+          let N : Noded ls (good cs ds) (suc i) (r - levelAt ls i .off j) (used t count) (used t′ n) = subst₂ (λ (k v : ℕ). Noded ls (good cs ds) k v (used t count) (used t′ n)) o left-is (d .noded) in
           let mv : m ≡ levelAt ls i .off j = k .by ∙ sym off-is in
           let C : Cut (drop (suc i) ls) (ascend-drop ls (suc i) (good cs ds)) r (levelAt ls i .off j) e y =
           subst (Cut (drop (suc i) ls) (ascend-drop ls (suc i) (good cs ds)) r (levelAt ls i .off j) e) (sym (is ∙ ap (overlapOf e s) mv))
           (cut-on (drop (suc i) ls) (ascend-drop ls (suc i) (good cs ds)) r (levelAt ls i .off j) taken left-undecided e s (below-label s (d .lab))) in
           record {
             cut = cut-step ls (good cs ds) i r j e y z dom-in C (ok .cut);
-            flat = record { room = ok .flat .room; long = ok .flat .long ∙ d .flat .long };
+            long = ok .long ∙ d .long;
+            two = ok .two;
             rowed = rowed-node ls (good cs ds) i r j (used t count) (used t′ n) (used t″ n′) dom-in taken N (ok .rowed);
           }
-      row-node-ok e s t count t′ n t″ Full d y is ok =
+      row-node-ok e s t count w t′ m′ n t″ Full d y is ok =
           let o : i + 1 ≡ suc i = omega arith in
-          let N : Noded ls (good cs ds) (suc i) (r - levelAt ls i .off j) (used t count) (used t′ n) = subst₂ (λ (w v : ℕ). Noded ls (good cs ds) w v (used t count) (used t′ n)) o left-is (d .noded) in
+          let N : Noded ls (good cs ds) (suc i) (r - levelAt ls i .off j) (used t count) (used t′ n) = subst₂ (λ (k v : ℕ). Noded ls (good cs ds) k v (used t count) (used t′ n)) o left-is (d .noded) in
           later-needs ls (good cs ds) (length t / 4) i r j (used t count) (used t′ n) (level-in i rd) dom-in taken N
-          (subst (λ (w : ℕ). NeedsMore ls (good cs ds) (w / 4) i r (used t′ n)) (d .flat .long) ok)
+          (subst (λ (l : ℕ). NeedsMore ls (good cs ds) (l / 4) i r (used t′ n)) (d .long) ok)
+
+  -- ---- The row so far
+
+  -- before child j: what the row from there on gives is what the whole row gives
+  pub record Sofar (i r : ℕ) (t₀ : List ℕ) (count w j : ℕ) (e : Ends) (t : List ℕ) (m n : ℕ) : Type 0 where
+    pub good′ : Good cs ds rs t m n w
+    pub long : length t ≡ length t₀
+    pub child : j ≤ getD ds i 0 + 1
+    pub goes : (t″ : List ℕ) (x : Built) → RowOk cs ds rs i r j e t n w t″ x → RowOk cs ds rs i r 0 (ends 0 (getD rs i 0 - 1)) t₀ count w t″ x
+
+  pub sofar-start : (i r : ℕ) (t : List ℕ) (m count w : ℕ) → Good cs ds rs t m count w → Sofar i r t count w 0 (ends 0 (getD rs i 0 - 1)) t m count
+  sofar-start i r t m count w G = record { good′ = G; long = refl; child = omega arith; goes = λ t″ x ok. ok }
+
+  module _ (i r : ℕ) (t₀ : List ℕ) (count w j : ℕ) (e : Ends) (t : List ℕ) (m n : ℕ) (rd : Ready cs ds rs i) (S : Sofar i r t₀ count w j e t m n) where
+    pub sofar-end : getD ds i 0 < j → RowOk cs ds rs i r 0 (ends 0 (getD rs i 0 - 1)) t₀ count w t (Done m n e)
+    sofar-end h = S .goes t (Done m n e) (row-end-ok i r j e t m n w rd (S .good′) h)
+
+    module _ (h : j ≤ getD ds i 0) where
+      pub sofar-skip : (b : Branch) → b ≡ branchOf (getD cs i 0) (getD rs (i + 1) 0) r j → ((c : Remainder) (o : ℕ) → b ≡ On c o → ⊥) → (y : Ends) → y ≡ cutOf e b
+          → Sofar i r t₀ count w (j + 1) y t m n
+      sofar-skip b is none y cut =
+          record { good′ = S .good′; long = S .long; child = omega arith; goes = λ t″ x ok. S .goes t″ x (row-skip-ok i r j rd h e b t n w t″ x is none y cut ok) }
+
+      module _ (c : Remainder) (o : ℕ) (k : OnCase (getD cs i 0) (getD rs (i + 1) 0) r j c o) where
+        pub sofar-full : (t″ : List ℕ) → NodeOk cs ds rs (i + 1) (c .0) t n w t Full → RowOk cs ds rs i r 0 (ends 0 (getD rs i 0 - 1)) t₀ count w t″ Full
+        sofar-full t″ ok = S .goes t″ Full (row-full-ok i r j rd h c o k t n w ok)
+
+        pub sofar-node : (t′ : List ℕ) (m′ n′ : ℕ) (s : Ends) → NodeDone cs ds rs (i + 1) (c .0) t n w t′ m′ n′ s → (y : Ends) → y ≡ overlapOf e s o → Sofar i r t₀ count w (j + 1) y t′ m′ n′
+        sofar-node t′ m′ n′ s d y is =
+            record {
+              good′ = record { two = d .two; store = d .noded .store };
+              long = d .long ∙ S .long;
+              child = omega arith;
+              goes = λ t″ x ok. S .goes t″ x (row-node-ok i r j rd h c o k e s t n w t′ m′ n′ t″ x d y is ok);
+            }
 
   -- ---- A new node
 
-  pub node-put-ok : (i r : ℕ) (t : List ℕ) (count : ℕ) (t′ : List ℕ) (n : ℕ) (e : Ends) (t″ : List ℕ) (b : Built) → Ready cs ds rs i → Good cs ds rs t count → r < getD rs i 0
-      → findIn (used t count) (i + 1) r ≡ Nothing → RowDone cs ds rs i r 0 (ends 0 (getD rs i 0 - 1)) t count t′ n e → PutOk t′ n (i + 1) r e t″ b → NodeOk cs ds rs i r t count t″ b
-  node-put-ok i r t count t′ n e t″ b rd G u none d put = by b put
+  pub node-put-ok : (i r : ℕ) (t : List ℕ) (m count w : ℕ) (t′ : List ℕ) (m′ n : ℕ) (e : Ends) (t″ : List ℕ) (b : Built) → Ready cs ds rs i → Good cs ds rs t m count w → r < getD rs i 0
+      → findIn (used t count) (i + 1) r ≡ Nothing → RowDone cs ds rs i r 0 (ends 0 (getD rs i 0 - 1)) t count w t′ m′ n e → PutOk t′ m′ n w (i + 1) r e t″ b → NodeOk cs ds rs i r t count w t″ b
+  node-put-ok i r t m count w t′ m′ n e t″ b rd G u none d put = by b put
     where
       top : getD rs i 0 ≡ R (drop i ls)
       top = top-is i (rd .lent) (let l = rd .level in omega arith)
@@ -255,19 +299,46 @@ module _ (cs ds rs : List ℕ) where
       free-now : Free ls (good cs ds) i r undecided tiny (used t′ n)
       free-now = free-kept ls (good cs ds) i r undecided tiny 0 (used t count) (used t′ n) (G .store) free (d .rowed)
 
-      placed : (p : ℕ) → Placed (used t′ n) (i + 1) r p → Placed (used t′ n) (suc i) r p
-      placed p P = subst (λ (l : ℕ). Placed (used t′ n) l r p) one P
-
-      by : (b : Built) → PutOk t′ n (i + 1) r e t″ b → NodeOk cs ds rs i r t count t″ b
-      by (Done n″ e″) put =
+      by : (b : Built) → PutOk t′ m′ n w (i + 1) r e t″ b → NodeOk cs ds rs i r t count w t″ b
+      by (Done k n″ e″) put =
           record {
             lab = ap labelOf (put .same) ∙ lab-is;
-            flat = record { room = put .flat .room; long = put .flat .long ∙ d .flat .long };
+            long = into .long ∙ put .settled .long ∙ d .long;
+            two = subst (λ (c : ℕ). Two t″ k c w) (sym (put .one)) (two-put ls (good cs ds) i r undecided tiny mid k n w (same .0) rights freed t″ into room few);
             noded =
-                subst (Noded ls (good cs ds) i r (used t count))
-                (ap₂ (λ (l : ℕ) (y : Label). insertAt (put .p) (record { level = l; lower = y .lower; upper = y .upper; first = 0 }) (used t′ n)) (sym one) (sym lab-is) ∙ sym (put .records))
-                (noded-new ls (good cs ds) i r undecided tiny (used t′ n) (d .rowed .store) free-now (put .p) (placed (put .p) (put .placed)) (used t count) (G .store) (d .rowed));
+                subst (λ (c : ℕ). Noded ls (good cs ds) i r (used t count) (used t″ c)) (sym (put .one))
+                (noded-new ls (good cs ds) i r undecided tiny (used t′ n) (used t″ (n + 1)) (d .rowed .store) adds (used t count) (G .store) (d .rowed));
           }
-      by Full nr =
-          needs-more ls (good cs ds) (length t / 4) i r (used t count) (used t′ n) undecided tiny (d .rowed .store) free-now (nr .p) (placed (nr .p) (nr .placed)) (d .rowed)
-          (subst (λ (w : ℕ). w / 4 ≤ length (used t′ n)) (d .flat .long) (omega (arith, nr .tight, used-length t′ n (d .flat .room))))
+        where
+          mid : List ℕ
+          mid = put .between
+
+          same : Two mid k n w × ((x : Record) → Among x (used mid n) ↔ Among x (used t′ n))
+          same = settled-same t′ m′ n w mid k (d .two) (put .settled)
+
+          rights : (x : Record) → Among x (used mid n) → Right ls x
+          rights x m = d .rowed .store .right x (same .1 x .0 m)
+
+          freed : Free ls (good cs ds) i r undecided tiny (used mid n)
+          freed x m = free-now x (same .1 x .0 m)
+
+          into : PutIn mid k n (suc i) r (label (drop i ls) r .lower) (label (drop i ls) r .upper) t″
+          into = subst₂ (λ (l : ℕ) (y : Label). PutIn mid k n l r (y .lower) (y .upper) t″) one lab-is (put .put)
+
+          room : n * 4 + 4 ≤ length mid
+          room = omega (arith, put .room, put .one, put .settled .long)
+
+          few : n * 4 + 4 ≤ k * 4 + w
+          few = put .settled .free
+
+          adds : (x : Record) → Among x (used t″ (n + 1)) ↔ ((x ≡ recordFor i (label (drop i ls) r)) ⊎ Among x (used t′ n))
+          adds x =
+              let p = put-adds ls (good cs ds) i r undecided tiny mid k n w (same .0) rights freed t″ into room few x in
+              (λ a. ⊎-elim inl (λ m. inr (same .1 x .0 m)) (p .0 a), λ a. p .1 (⊎-elim inl (λ m. inr (same .1 x .1 m)) a))
+      by Full tight =
+          let v = view t′ m′ n in
+          let q = place-in v (view-sorted t′ m′ n w (d .two .runs) (d .two .apart)) (suc i) r in
+          let from : (x : Record) → Among x v → Among x (used t′ n) = used-view t′ m′ n w (d .two .runs) in
+          needs-more ls (good cs ds) (length t / 4) i r (used t count) v undecided tiny (λ x m. d .rowed .store .right x (from x m)) (view-sorted t′ m′ n w (d .two .runs) (d .two .apart))
+          (λ x m. free-now x (from x m)) (q .0) (q .1) (λ i′ z h. d .rowed .has i′ z .0 (h .0, from (h .0) (h .1), h .2, h .3))
+          (subst (λ (l : ℕ). l / 4 ≤ length v) (d .long) (omega (arith, tight, view-length t′ m′ n w (d .two .runs))))

@@ -13,7 +13,7 @@ use lib.ListN.{length, getD, drop}
 use borrow.Author.Tests.{ltb-true, ltb-false}
 use Rattle.word.specs.Record.{Record, noRecord}
 use Rattle.table.specs.Order.{key, Before, Proper, Among, Sorted, Placed, insertAt}
-use Rattle.table.proofs.Order.{sorted-at, proper-at, among-at, at-among, insert-length, insert-new, insert-old, insert-cases, sorted-insert}
+use Rattle.table.proofs.Order.{sorted-at, proper-at, among-at, at-among, insert-length, insert-cases, sorted-insert}
 use Rattle.diagram.specs.Level.{Level, AllAscend, R}
 use Rattle.diagram.specs.Label.{Label, label, Holds}
 use Rattle.diagram.specs.Claim.{levelAt}
@@ -163,11 +163,12 @@ module _ (ls : List Level) (g : AllAscend ls) where
         let y = right-one x (o .0) (R .store .right x m) (S .right (o .0) (o .1)) (e ∙ sym (o .2)) (sym (o .3)) in
         F (o .0) (o .1) (o .2) (subst (λ (z : Record). z .lower ≤ r) y a) (subst (λ (z : Record). r ≤ z .upper) y b)
 
-    module _ (ys : List Record) (S : Store ls g ys) (F : Free ys) (p : ℕ) (P : Placed ys (suc i) r p) where
+    -- a list in order that is a part of the store, with the new record at its place
+    module _ (ys : List Record) (right : (x : Record) → Among x ys → Right ls x) (sorted : Sorted ys) (F : Free ys) (p : ℕ) (P : Placed ys (suc i) r p) where
       -- a record of the level has no number of the new label
       clash : (x : Record) → Among x ys → x .level ≡ suc i → (n : ℕ) → x .lower ≤ n → n ≤ x .upper → new .lower ≤ n → n ≤ new .upper → ⊥
       clash x m e n a b c d =
-          let y = shared x new i n (S .right x m) (right-for i r u) e refl a b c d in
+          let y = shared x new i n (right x m) (right-for i r u) e refl a b c d in
           let h = new-holds in
           F x m e (subst (λ (z : Record). z .lower ≤ r) (sym y) (h .0)) (subst (λ (z : Record). r ≤ z .upper) (sym y) (h .1))
 
@@ -176,7 +177,7 @@ module _ (ls : List Level) (g : AllAscend ls) where
           let x : Record = getD ys k noRecord in
           let b = P .before k h in
           let w = P .within in
-          let pr : Proper x = proper-at ys (S .sorted) k (omega arith) in
+          let pr : Proper x = proper-at ys (sorted) k (omega arith) in
           let n = new-holds in
           ⊎-elim (λ l. l)
           (λ l. let e : x .level ≡ suc i = omega arith in
@@ -187,7 +188,7 @@ module _ (ls : List Level) (g : AllAscend ls) where
       before k h l =
           let x : Record = getD ys k noRecord in
           let b = P .after k h l in
-          let pr : Proper x = proper-at ys (S .sorted) k l in
+          let pr : Proper x = proper-at ys (sorted) k l in
           let n = new-holds in
           ⊎-elim (λ z. z)
           (λ z. let e : x .level ≡ suc i = omega (arith, n .2) in
@@ -198,46 +199,47 @@ module _ (ls : List Level) (g : AllAscend ls) where
       pub sorted-new : Sorted (insertAt p new ys)
       sorted-new =
           let n = new-holds in
-          sorted-insert p new ys (S .sorted) (omega (arith, n .0, n .1), omega (arith, n .2)) (P .within) after before
+          sorted-insert p new ys (sorted) (omega (arith, n .0, n .1), omega (arith, n .2)) (P .within) after before
 
       pub right-new : (x : Record) → Among x (insertAt p new ys) → Right ls x
-      right-new x m = ⊎-elim (λ e. subst (Right ls) (sym e) (right-for i r u)) (S .right x) (insert-cases p new ys x m)
+      right-new x m = ⊎-elim (λ e. subst (Right ls) (sym e) (right-for i r u)) (right x) (insert-cases p new ys x m)
 
-      keep : (i′ q : ℕ) → Has ys i′ q → Has (insertAt p new ys) i′ q
-      keep i′ q h = (h .0, insert-old p new ys (h .0) (h .1), h .2, h .3)
+    -- the store with the new record, in whatever order
+    module _ (ys zs : List Record) (S : Store ls g ys) (adds : (x : Record) → Among x zs ↔ ((x ≡ new) ⊎ Among x ys)) where
+      keep : (i′ q : ℕ) → Has ys i′ q → Has zs i′ q
+      keep i′ q h = (h .0, adds (h .0) .1 (inr (h .1)), h .2, h .3)
 
-      own : Has (insertAt p new ys) i (label (drop i ls) r .lower)
-      own = (new, insert-new p new ys, refl, refl)
+      own : Has zs i (label (drop i ls) r .lower)
+      own = (new, adds new .1 (inl refl), refl, refl)
 
       module _ (xs : List Record) (T : Store ls g xs) (R : Rowed ls g i r 0 xs ys) where
-        has-new : (i′ q : ℕ) → Has (insertAt p new ys) i′ q ↔ (Has xs i′ q ⊎ From ls g i r i′ q)
-        has-new i′ q = (λ h. split h (insert-cases p new ys (h .0) (h .1)), back)
+        has-new : (i′ q : ℕ) → Has zs i′ q ↔ (Has xs i′ q ⊎ From ls g i r i′ q)
+        has-new i′ q = (λ h. split h (adds (h .0) .0 (h .1)), back)
           where
             level : i < length ls
             level = deep ls i r u
 
-            split : (h : Has (insertAt p new ys) i′ q) → (h .0 ≡ new) ⊎ Among (h .0) ys → Has xs i′ q ⊎ From ls g i r i′ q
+            split : (h : Has zs i′ q) → (h .0 ≡ new) ⊎ Among (h .0) ys → Has xs i′ q ⊎ From ls g i r i′ q
             split h (inl e) =
                 let a : i′ ≡ i = suc-inj (sym (h .2) ∙ ap (λ (x : Record). x .level) e) in
                 let b : label (drop i ls) r .lower ≡ q = sym (ap (λ (x : Record). x .lower) e) ∙ h .3 in
                 inr (subst (λ (n : ℕ). From ls g i r n q) (sym a) (subst (λ (n : ℕ). From ls g i r i n) b (from-self ls g i r u)))
             split h (inr m) = ⊎-elim inl (λ k. inr (part-from ls g i r (k .0) i′ q level (k .2) (k .3))) (R .has i′ q .0 (h .0, m, h .2, h .3))
 
-            back : Has xs i′ q ⊎ From ls g i r i′ q → Has (insertAt p new ys) i′ q
+            back : Has xs i′ q ⊎ From ls g i r i′ q → Has zs i′ q
             back (inl h) = keep i′ q (R .has i′ q .1 (inl h))
             back (inr f) = ⊎-elim self (λ k. keep i′ q (R .has i′ q .1 (inr (k .0, omega arith, k .1, k .2)))) (from-parts ls g i r i′ q level f)
               where
-                self : (i′ ≡ i) × (label (drop i ls) r .lower ≡ q) → Has (insertAt p new ys) i′ q
-                self e = subst (λ (n : ℕ). Has (insertAt p new ys) n q) (sym (e .0)) (subst (λ (n : ℕ). Has (insertAt p new ys) i n) (e .1) own)
+                self : (i′ ≡ i) × (label (drop i ls) r .lower ≡ q) → Has zs i′ q
+                self e = subst (λ (n : ℕ). Has zs n q) (sym (e .0)) (subst (λ (n : ℕ). Has zs i n) (e .1) own)
 
         -- THE NEW NODE with all below it
-        pub noded-new : Noded ls g i r xs (insertAt p new ys)
+        pub noded-new : Noded ls g i r xs zs
         noded-new =
             record {
               store =
                   record {
-                    right = right-new;
-                    sorted = sorted-new;
+                    right = λ x m. ⊎-elim (λ e. subst (Right ls) (sym e) (right-for i r u)) (S .right x) (adds x .0 m);
                     closed = λ j k i′ q h f. has-new i′ q .1 (⊎-elim (λ m. inl (T .closed j k i′ q m f)) (λ b. inr (from-trans ls g i r j k i′ q b f)) (has-new j k .0 h));
                   };
               has = has-new;
@@ -267,13 +269,13 @@ module _ (ls : List Level) (g : AllAscend ls) where
       let at = at-among (o .0) zs (o .1) in
       (at .k, at .within, e ∙ sym (at .here))
 
-  -- A FULL STORE without the node: what has all of it and the node is longer
-  pub needs-more : (n i r : ℕ) (xs ys : List Record) → (u : r < R (drop i ls)) → (small : R (drop i ls) < 4294967296) → (S : Store ls g ys) → (F : Free i r u small ys)
-      → (p : ℕ) → Placed ys (suc i) r p → Rowed ls g i r 0 xs ys → n ≤ length ys → NeedsMore ls g n i r xs
-  needs-more n i r xs ys u small S F p P R full zs s t old new =
+  -- A FULL STORE without the node, its records in order in ys: what has all of it and the node is longer
+  pub needs-more : (n i r : ℕ) (xs ys : List Record) → (u : r < R (drop i ls)) → (small : R (drop i ls) < 4294967296) → (right : (x : Record) → Among x ys → Right ls x) → (sorted : Sorted ys)
+      → (F : Free i r u small ys) → (p : ℕ) → Placed ys (suc i) r p → ((i′ q : ℕ) → Has ys i′ q → Has xs i′ q ⊎ Kids ls g i r 0 i′ q) → n ≤ length ys → NeedsMore ls g n i r xs
+  needs-more n i r xs ys u small right sorted F p P has full zs s t old new =
       let ws : List Record = insertAt p (recordFor i (label (drop i ls) r)) ys in
-      let shorter = within-shorter noRecord Earlier earlier-asym ws zs (sorted-strict ws (sorted-new i r u small ys S F p P)) (sorted-strict zs s)
-      (has-within ws zs (right-new i r u small ys S F p P) t covered) in
+      let shorter = within-shorter noRecord Earlier earlier-asym ws zs (sorted-strict ws (sorted-new i r u small ys right sorted F p P)) (sorted-strict zs s)
+      (has-within ws zs (right-new i r u small ys right sorted F p P) t covered) in
       omega (arith, shorter, insert-length p (recordFor i (label (drop i ls) r)) ys)
     where
       level : i < length ls
@@ -287,7 +289,7 @@ module _ (ls : List Level) (g : AllAscend ls) where
               let a : i′ ≡ i = suc-inj (sym (h .2) ∙ ap (λ (x : Record). x .level) e) in
               let b : label (drop i ls) r .lower ≡ q = sym (ap (λ (x : Record). x .lower) e) ∙ h .3 in
               subst (λ (m : ℕ). Has zs m q) (sym a) (subst (λ (m : ℕ). Has zs i m) b (new i (label (drop i ls) r .lower) (from-self ls g i r u)))
-          go (inr m) = ⊎-elim (old i′ q) (λ k. new i′ q (part-from ls g i r (k .0) i′ q level (k .2) (k .3))) (R .has i′ q .0 (h .0, m, h .2, h .3))
+          go (inr m) = ⊎-elim (old i′ q) (λ k. new i′ q (part-from ls g i r (k .0) i′ q level (k .2) (k .3))) (has i′ q (h .0, m, h .2, h .3))
 
   -- what a child needs, the remainder needs
   pub child-needs : (n i r j : ℕ) (xs ys : List Record) → i < length ls → j ≤ levelAt ls i .dom → levelAt ls i .off j ≤ r

@@ -1,16 +1,18 @@
-// The diagram of a constraint, built into a lent node table: node building and row building call each other.
+// The diagram of a constraint, built into a lent node table: node building and row building call each other. While it grows the table is kept in two runs.
 // Level i, from 0, has the coefficient coefs[i] and the domain end ends[i]; rests[i] is the greatest sum from that level on.
 use table::Found;
 use word::NodeNumber;
 use word::RECORD;
 use word::Remainder;
 ghost use mathlib.Core.Path.{_≡_};
-ghost use Prim.Native.Nat.{_+_, _*_, _/_, _<_, _≤_, min, max};
+ghost use Prim.Native.Nat.{_+_, _-_, _*_, _/_, _<_, _≤_, min, max};
 ghost use lib.ListN.{length, getD};
-ghost use Rattle.table.specs.Order.{used, Sorted};
+ghost use Rattle.table.specs.declared.Found.the-variants.{Nothing};
+ghost use Rattle.table.specs.Find.{findIn};
+ghost use Rattle.table.specs.Order.{used};
 ghost use Rattle.constraint.specs.Lent.{Lent};
-ghost use Rattle.builder.specs.Branch.{ends, branchOf, cutOf, overlapOf};
-ghost use Rattle.builder.specs.Built.{Ready, Good, PutOk, NodeOk, RowOk, RootOk};
+ghost use Rattle.builder.specs.Branch.{ends as ends′, branchOf, cutOf, overlapOf};
+ghost use Rattle.builder.specs.Built.{Ready, Two, Good, PutOk, NodeOk, RowOk, RootOk};
 
 // The two ends of a label.
 pub struct Ends {
@@ -25,9 +27,9 @@ pub enum Branch {
     On(Remainder, u32),
 }
 
-// The number of records in use and a label, or no room for a further node.
+// The numbers of records in the first run and in both, and a label; or no room for a further node.
 pub enum Built {
-    Done(usize, Ends),
+    Done(usize, usize, Ends),
     Full,
 }
 
@@ -98,7 +100,7 @@ fn overlap(e: Ends, s: Ends, m: u32) -> Ends
 // The label of a record.
 fn label_at(table: &[u32], k: NodeNumber) -> Ends
     requires { ⌜ k .0 * 4 + 3 < length (now table) ⌝ }
-    ensures { λ x. ⌜ x ≡ ends (getD (now (table .entry)) (k .0 * 4 + 1) 0) (getD (now (table .entry)) (k .0 * 4 + 2) 0) ⌝ }
+    ensures { λ x. ⌜ x ≡ ends′ (getD (now (table .entry)) (k .0 * 4 + 1) 0) (getD (now (table .entry)) (k .0 * 4 + 2) 0) ⌝ }
 {
     let b = k.0 * RECORD;
     Ends {
@@ -107,106 +109,139 @@ fn label_at(table: &[u32], k: NodeNumber) -> Ends
     }
 }
 
-// Puts a record for the label into the table, at the remainder's place.
-fn put(table: &mut [u32], count: usize, level: u32, r: Remainder, e: Ends) -> Built
-    requires { ⌜ (count * 4 ≤ length (now table)) × Sorted (used (now table) count) ⌝ }
-    ensures { λ b. ⌜ PutOk (now (table .entry)) count level (r .0) e (now (table .exit)) b ⌝ }
+// Puts a record for the label into the table's second run, which is merged into the first before it grows too long.
+fn put(
+    table: &mut [u32],
+    work: &mut [u32],
+    main: usize,
+    count: usize,
+    level: u32,
+    r: Remainder,
+    e: Ends,
+) -> Built
+    requires { ⌜ Two (now table) main count (length (now work)) × (4 ≤ length (now work)) ⌝ }
+    ensures { λ b. ⌜ PutOk (now (table .entry)) main count (length (now (work .entry))) level (r .0) e (now (table .exit)) b ⌝ }
 {
-    let p = table::ordered::place(table, count, level, r);
     if table.len() / RECORD <= count {
         return Built::Full;
     }
-    table::ordered::insert(table, count, p, level, e.lower, e.upper);
-    Built::Done(count + 1, e)
+    let k = runs::settle(table, work, main, count);
+    runs::put(table, k, count, level, r, e.lower, e.upper);
+    Built::Done(k, count + 1, e)
 }
 
 // The node of an undecided remainder at level i, found or built.
+fn find_node<'a>(
+    coefs: &'a [u32],
+    ends: &'a [u32],
+    rests: &'a [u32],
+    table: &mut [u32],
+    work: &mut [u32],
+    main: usize,
+    count: usize,
+    i: usize,
+    r: Remainder,
+) -> Built
+    requires { ⌜ Ready (now coefs) (now ends) (now rests) i ⌝ }
+    requires { ⌜ Good (now coefs) (now ends) (now rests) (now table) main count (length (now work)) × (4 ≤ length (now work)) ⌝ }
+    requires { ⌜ r .0 < getD (now rests) i 0 ⌝ }
+    ensures { λ b. ⌜ NodeOk (now (coefs .entry)) (now (ends .entry)) (now (rests .entry)) i (r .0) (now (table .entry)) count (length (now (work .entry))) (now (table .exit)) b ⌝ }
+{
+    let level = i as u32 + 1;
+    let Found::At(k) = runs::find(table, work, main, count, level, r) else {
+        return build_node(coefs, ends, rests, table, work, main, count, i, r);
+    };
+    Built::Done(main, count, label_at(table, k))
+}
+
+// The node of an undecided remainder at level i that no record holds, built from its row.
 fn build_node<'a>(
     coefs: &'a [u32],
     ends: &'a [u32],
     rests: &'a [u32],
     table: &mut [u32],
+    work: &mut [u32],
+    main: usize,
     count: usize,
     i: usize,
     r: Remainder,
 ) -> Built
     requires { ⌜ Ready (now coefs) (now ends) (now rests) i ⌝ }
-    requires { ⌜ Good (now coefs) (now ends) (now rests) (now table) count ⌝ }
-    requires { ⌜ r .0 < getD (now rests) i 0 ⌝ }
-    ensures { λ b. ⌜ NodeOk (now (coefs .entry)) (now (ends .entry)) (now (rests .entry)) i (r .0) (now (table .entry)) count (now (table .exit)) b ⌝ }
+    requires { ⌜ Good (now coefs) (now ends) (now rests) (now table) main count (length (now work)) × (4 ≤ length (now work)) ⌝ }
+    requires { ⌜ (r .0 < getD (now rests) i 0) × (findIn (used (now table) count) (i + 1) (r .0) ≡ Nothing) ⌝ }
+    ensures { λ b. ⌜ NodeOk (now (coefs .entry)) (now (ends .entry)) (now (rests .entry)) i (r .0) (now (table .entry)) count (length (now (work .entry))) (now (table .exit)) b ⌝ }
 {
-    let level = i as u32 + 1;
-    let Found::At(k) = table::ordered::find_sorted(table, count, level, r) else {
-        let whole = Ends {
-            lower: 0,
-            upper: rests[i] - 1,
-        };
-        let row = build_row(coefs, ends, rests, table, count, i, r, 0, whole);
-        let Built::Done(n, e) = row else {
-            return Built::Full;
-        };
-        return put(table, n, level, r, e);
+    let row = build_row(coefs, ends, rests, table, work, main, count, i, r);
+    let Built::Done(m, n, e) = row else {
+        return Built::Full;
     };
-    Built::Done(count, label_at(table, k))
+    put(table, work, m, n, i as u32 + 1, r, e)
 }
 
-// The ends, overlapped with the labels of the remainder's children from j on, whose nodes are found or built.
+// The label of an undecided remainder at level i: the overlap of its children's labels, whose nodes are found or built.
 fn build_row<'a>(
     coefs: &'a [u32],
     ends: &'a [u32],
     rests: &'a [u32],
     table: &mut [u32],
+    work: &mut [u32],
+    main: usize,
     count: usize,
     i: usize,
     r: Remainder,
-    j: u32,
-    e: Ends,
 ) -> Built
     requires { ⌜ Ready (now coefs) (now ends) (now rests) i ⌝ }
-    requires { ⌜ Good (now coefs) (now ends) (now rests) (now table) count ⌝ }
-    requires { ⌜ (r .0 < getD (now rests) i 0) × (j ≤ getD (now ends) i 0 + 1) ⌝ }
-    ensures { λ b. ⌜ RowOk (now (coefs .entry)) (now (ends .entry)) (now (rests .entry)) i (r .0) j e (now (table .entry)) count (now (table .exit)) b ⌝ }
+    requires { ⌜ Good (now coefs) (now ends) (now rests) (now table) main count (length (now work)) × (4 ≤ length (now work)) ⌝ }
+    requires { ⌜ r .0 < getD (now rests) i 0 ⌝ }
+    ensures { λ b. ⌜ RowOk (now (coefs .entry)) (now (ends .entry)) (now (rests .entry)) i (r .0) 0 (ends′ 0 (getD (now (rests .entry)) i 0 - 1)) (now (table .entry)) count (length (now (work .entry))) (now (table .exit)) b ⌝ }
 {
-    if ends[i] < j {
-        return Built::Done(count, e);
+    let end = ends[i];
+    let mut m = main;
+    let mut n = count;
+    let mut e = Ends {
+        lower: 0,
+        upper: rests[i] - 1,
+    };
+    let mut j: u32 = 0;
+    'children: while j <= end {
+        let branch = child(coefs, rests, i, r, j);
+        j += 1;
+        let Branch::On(c, moved) = branch else {
+            e = cut(e, branch);
+            continue 'children;
+        };
+        let node = find_node(coefs, ends, rests, table, work, m, n, i + 1, c);
+        let Built::Done(m2, n2, s) = node else {
+            return Built::Full;
+        };
+        m = m2;
+        n = n2;
+        e = overlap(e, s, moved);
     }
-    let branch = child(coefs, rests, i, r, j);
-    let Branch::On(c, m) = branch else {
-        return build_row(
-            coefs,
-            ends,
-            rests,
-            table,
-            count,
-            i,
-            r,
-            j + 1,
-            cut(e, branch),
-        );
-    };
-    let Built::Done(n, s) = build_node(coefs, ends, rests, table, count, i + 1, c) else {
-        return Built::Full;
-    };
-    build_row(coefs, ends, rests, table, n, i, r, j + 1, overlap(e, s, m))
+    Built::Done(m, n, e)
 }
 
-// The diagram of the bound, built into the table: its records in order, the fourth word of each 0.
+// The diagram of the bound, built into the table by way of the lent words: its records in order, the fourth word of each 0.
 pub fn build<'a>(
     coefs: &'a [u32],
     ends: &'a [u32],
     rests: &'a [u32],
     table: &mut [u32],
+    work: &mut [u32],
     bound: Remainder,
 ) -> Root
     requires { ⌜ Lent (now coefs) (now ends) (now rests) ⌝ }
+    requires { ⌜ 4 ≤ length (now work) ⌝ }
     ensures { λ b. ⌜ RootOk (now (coefs .entry)) (now (ends .entry)) (bound .0) (now (table .entry)) (now (table .exit)) b ⌝ }
 {
     let x = bound.0;
     if rests[0] <= x {
         return Root::True;
     }
-    let Built::Done(n, _) = build_node(coefs, ends, rests, table, 0, 0, bound) else {
+    runs::prepare(work, rests);
+    let Built::Done(m, n, _) = build_node(coefs, ends, rests, table, work, 0, 0, 0, bound) else {
         return Root::Full;
     };
+    runs::merge(table, work, m, n);
     Root::Node(n)
 }

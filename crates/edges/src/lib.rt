@@ -1,4 +1,5 @@
 // From the records of a finished table: the sum of domain ends, and the edge list with each record's place in it.
+use constraint::Constraint;
 use table::Found;
 use table::ordered;
 use word::Child;
@@ -18,6 +19,9 @@ ghost use Rattle.edges.specs.Sum.{endSum, Countable};
 ghost use Rattle.edges.specs.Row.{leadsTo, rowOf};
 ghost use Rattle.edges.specs.Linked.{Finished, Linked};
 
+// The most values of a level, 0 to its domain end.
+const VALUES: usize = Constraint::END as usize + 1;
+
 // The sum, over the first `count` records, of the domain end of the record's level.
 pub fn sum_ends(ends: &[u32], table: &[u32], count: usize) -> usize
     requires { ⌜ Countable (now ends) (now table) count ⌝ }
@@ -34,8 +38,16 @@ pub fn sum_ends(ends: &[u32], table: &[u32], count: usize) -> usize
     sum
 }
 
-// Where `lower` less `taken` leads at a level whose R is `top`, found among the first `count` records.
-fn child(table: &[u32], count: usize, level: u32, top: u32, lower: u32, taken: u32) -> Child
+// Where `lower` less `taken` leads at a level whose R is `top`, found among the first `count` records with a cursor, which a decided child does not move.
+fn child(
+    table: &[u32],
+    count: usize,
+    cursor: &mut usize,
+    level: u32,
+    top: u32,
+    lower: u32,
+    taken: u32,
+) -> Child
     requires { ⌜ (count * 4 ≤ length (now table)) × Sorted (used (now table) count) ⌝ }
     ensures { λ c. ⌜ edgeOf c ≡ leadsTo (used (now (table .entry)) count) level top (subℕ lower taken) ⌝ }
 {
@@ -46,16 +58,18 @@ fn child(table: &[u32], count: usize, level: u32, top: u32, lower: u32, taken: u
     if top <= r {
         return Child::True;
     }
-    let Found::At(k) = ordered::find_sorted(table, count, level, Remainder(r)) else {
+    let Found::At(k) = ordered::find_from(table, count, cursor, level, Remainder(r)) else {
         return Child::False;
     };
     Child::Node(k)
 }
 
-// Writes the words of the children of `lower` from a place of the edges on; `level` and `top` are those of the level below.
+// Writes the words of the children of `lower` from a place of the edges on; `level` and `top` are those of the level below. The child of value j is
+// searched for from cursor j on.
 fn row(
     table: &[u32],
     count: usize,
+    cursors: &mut [usize; VALUES],
     level: u32,
     top: u32,
     coef: u32,
@@ -71,14 +85,16 @@ fn row(
     let mut taken: u32 = 0;
     let mut j: u32 = 0;
     while j <= end {
-        let c = child(table, count, level, top, lower, taken);
-        edges[first + j as usize] = word::edge_word(c);
+        let at = j as usize;
+        let c = child(table, count, &mut cursors[at], level, top, lower, taken);
+        edges[first + at] = word::edge_word(c);
         taken += coef;
         j += 1;
     }
 }
 
-// Writes the edge list, and into each of the first `count` records its place there.
+// Writes the edge list, and into each of the first `count` records its place there. As the records are in order, so are the children of one value: the
+// value's cursor goes over the table once.
 pub fn link<'a>(
     coefs: &'a [u32],
     ends: &'a [u32],
@@ -92,6 +108,7 @@ pub fn link<'a>(
     ensures { λ _. ⌜ ((a : ℕ) → Finished (now (coefs .entry)) (now (ends .entry)) a (now (table .entry)) count (now (edges .entry))
         → Linked (now (coefs .entry)) (now (ends .entry)) a (now (table .entry)) count (now (edges .entry)) (now (table .exit)) (now (edges .exit))) ⌝ }
 {
+    let mut cursors = [0usize; VALUES];
     let mut first: usize = 0;
     let mut k = 0;
     while k < count {
@@ -104,6 +121,7 @@ pub fn link<'a>(
         row(
             table,
             count,
+            &mut cursors,
             i + 2,
             rests[at + 1],
             coefs[at],

@@ -1,12 +1,13 @@
--- RECORDS OF A FLAT TABLE: how many there are, and that record k is words 4k to 4k + 3. By induction, four words at a time. Assumes nothing.
+-- RECORDS OF A FLAT TABLE: how many there are, that record k is words 4k to 4k + 3, that a cut at record k is one at word 4k, and what four stores do. By
+-- induction, four words at a time. Assumes nothing.
 use mathlib.Core.Path.{_≡_, refl, ap, _∙_}
-use mathlib.Core.List.{List, [], _∷_}
+use mathlib.Core.List.{List, [], _∷_, _++_, append-assoc}
 use Prim.Native.Nat.{ℕ, zero, suc, _+_, _*_, _/_, _≤_, _<_}
 use native.Mathlib.Nat.{not-suc-le-zero, le-of-suc-le-suc}
 use native.Mathlib.Omega.{arith}
-use lib.ListN.{length, getD}
-use lib.Seq.{getD-take, length-take-le}
-use Rattle.word.specs.Record.{Record, records, noRecord}
+use lib.ListN.{length, getD, take, drop, set}
+use lib.Seq.{getD-take, length-take-le, sets, sets-eq}
+use Rattle.word.specs.Record.{Record, records, noRecord, laid}
 use Rattle.table.specs.Order.{used}
 
 -- The record that four words make.
@@ -44,6 +45,54 @@ record-at (a ∷ b ∷ c ∷ d ∷ t) (suc k) x h =
     let e2 = shifted a b c d t (suc k * 4 + 2) (k * 4 + 2) (omega arith) in
     let e3 = shifted a b c d t (suc k * 4 + 3) (k * 4 + 3) (omega arith) in
     cc
+
+four : (p : ℕ) → suc p * 4 ≡ suc (suc (suc (suc (p * 4))))
+four p = omega arith
+
+-- THE CUT at record p is the one at word 4p.
+pub records-take : (p : ℕ) (t : List ℕ) → records (take (p * 4) t) ≡ take p (records t)
+unfolding records
+records-take zero t = refl
+records-take (suc p) [] = rw four refl
+records-take (suc p) (x ∷ []) = rw four refl
+records-take (suc p) (x ∷ y ∷ []) = rw four refl
+records-take (suc p) (x ∷ y ∷ z ∷ []) = rw four refl
+records-take (suc p) (x ∷ y ∷ z ∷ w ∷ t) = rw four (ap (λ (r : List Record). recordOf x y z w ∷ r) (records-take p t))
+
+pub records-drop : (p : ℕ) (t : List ℕ) → records (drop (p * 4) t) ≡ drop p (records t)
+unfolding records
+records-drop zero t = refl
+records-drop (suc p) [] = rw four refl
+records-drop (suc p) (x ∷ []) = rw four refl
+records-drop (suc p) (x ∷ y ∷ []) = rw four refl
+records-drop (suc p) (x ∷ y ∷ z ∷ []) = rw four refl
+records-drop (suc p) (x ∷ y ∷ z ∷ w ∷ t) = rw four (records-drop p t)
+
+pub records-append : (p : ℕ) (s t : List ℕ) → length s ≡ p * 4 → records (s ++ t) ≡ records s ++ records t
+unfolding records
+records-append zero [] t e = refl
+records-append zero (x ∷ s) t e = absurd (let z : _<_ 0 0 = omega arith in omega arith)
+records-append (suc p) [] t e = refl
+records-append (suc p) (x ∷ []) t e = absurd (let z : _<_ 0 0 = omega arith in omega arith)
+records-append (suc p) (x ∷ y ∷ []) t e = absurd (let z : _<_ 0 0 = omega arith in omega arith)
+records-append (suc p) (x ∷ y ∷ z ∷ []) t e = absurd (let z : _<_ 0 0 = omega arith in omega arith)
+records-append (suc p) (x ∷ y ∷ z ∷ w ∷ s) t e = ap (λ (r : List Record). recordOf x y z w ∷ r) (records-append p s t (omega arith))
+
+pub records-laid : (x : Record) (ws : List ℕ) → records (laid x ++ ws) ≡ x ∷ records ws
+unfolding records
+records-laid x ws = refl
+
+-- THE FOUR STORES of a record at number k.
+pub stored : (t : List ℕ) (k : ℕ) (x : Record) → k * 4 + 4 ≤ length t
+    → set (set (set (set t (k * 4) (x .level)) (k * 4 + 1) (x .lower)) (k * 4 + 2) (x .upper)) (k * 4 + 3) (x .first)
+    ≡ take (k * 4) t ++ (laid x ++ drop (k * 4 + 4) t)
+stored t k x room =
+    let i : ℕ = k * 4 in
+    let s1 : i + 1 ≡ suc i = omega arith in
+    let s2 : i + 2 ≡ suc (suc i) = omega arith in
+    let s3 : i + 3 ≡ suc (suc (suc i)) = omega arith in
+    let e : sets t i (laid x) ≡ take i t ++ laid x ++ drop (i + 4) t = sets-eq (laid x) t i (omega arith) in
+    rw (s1, s2, s3) (e ∙ append-assoc (take i t) (laid x) (drop (i + 4) t))
 
 -- The first `count` records, where the table has room for them.
 module _ (t : List ℕ) (count : ℕ) (room : count * 4 ≤ length t) where

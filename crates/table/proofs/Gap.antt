@@ -7,10 +7,10 @@ use native.Mathlib.Nat.{not-suc-le-zero, le-of-suc-le-suc, suc-sub-suc}
 use native.Mathlib.Numerals.{add-one}
 use native.Mathlib.Omega.{arith}
 use lib.ListN.{length, getD, take, drop, set, List·getD-append, take-append-drop, length-append, length-drop}
-use lib.Seq.{drop-cons, take-suc, append-snoc, set-at, getD-take, take-at, drop-at, length-take-le, take-take, sets, sets-eq, take-append-le}
+use lib.Seq.{drop-cons, take-suc, append-snoc, set-at, getD-take, take-at, drop-at, length-take-le, take-take, take-append-le}
 use Rattle.word.specs.Record.{Record, records, laid}
 use Rattle.table.specs.Order.{used, insertAt}
-use Rattle.table.proofs.Flat.{recordOf, records-length}
+use Rattle.table.proofs.Flat.{records-length, records-take, records-drop, records-append, records-laid, stored}
 
 -- The words from b up to n moved up by four.
 abbrev pub gap : List ℕ → ℕ → ℕ → List ℕ
@@ -66,50 +66,14 @@ stores t g count p x h room eq =
     let i : ℕ = p * 4 in
     let n : ℕ = count * 4 in
     let rest : List ℕ = take (n - i) (drop i t) ++ drop (n + 4) t in
-    let s1 : i + 1 ≡ suc i = omega arith in
-    let s2 : i + 2 ≡ suc (suc i) = omega arith in
-    let s3 : i + 3 ≡ suc (suc (suc i)) = omega arith in
     let whole : length (gap t i n) ≡ length t = gap-length t i n (omega arith) (omega arith) in
     let long : length (take (i + 4) t) ≡ i + 4 = length-take-le (i + 4) t (omega arith) in
-    let e1 : sets (gap t i n) i (laid x) ≡ take i (gap t i n) ++ laid x ++ drop (i + 4) (gap t i n) = sets-eq (laid x) (gap t i n) i (omega arith) in
     let e2 : take i (gap t i n) ≡ take i t = take-append-le i (take (i + 4) t) rest (omega arith) ∙ take-take i (i + 4) t (omega arith) in
     let e3 : drop (i + 4) (gap t i n) ≡ rest = drop-at (take (i + 4) t) rest (i + 4) long in
-    rw (eq, s1, s2, s3)
-    (e1
-    ∙ ap (λ (q : List ℕ). q ++ laid x ++ drop (i + 4) (gap t i n)) e2
-    ∙ ap (λ (q : List ℕ). take i t ++ laid x ++ q) e3
-    ∙ append-assoc (take i t) (laid x) rest)
-
-four : (p : ℕ) → suc p * 4 ≡ suc (suc (suc (suc (p * 4))))
-four p = omega arith
-
-records-take : (p : ℕ) (t : List ℕ) → records (take (p * 4) t) ≡ take p (records t)
-unfolding records
-records-take zero t = refl
-records-take (suc p) [] = rw four refl
-records-take (suc p) (x ∷ []) = rw four refl
-records-take (suc p) (x ∷ y ∷ []) = rw four refl
-records-take (suc p) (x ∷ y ∷ z ∷ []) = rw four refl
-records-take (suc p) (x ∷ y ∷ z ∷ w ∷ t) = rw four (ap (λ (r : List Record). recordOf x y z w ∷ r) (records-take p t))
-
-records-drop : (p : ℕ) (t : List ℕ) → records (drop (p * 4) t) ≡ drop p (records t)
-unfolding records
-records-drop zero t = refl
-records-drop (suc p) [] = rw four refl
-records-drop (suc p) (x ∷ []) = rw four refl
-records-drop (suc p) (x ∷ y ∷ []) = rw four refl
-records-drop (suc p) (x ∷ y ∷ z ∷ []) = rw four refl
-records-drop (suc p) (x ∷ y ∷ z ∷ w ∷ t) = rw four (records-drop p t)
-
-records-append : (p : ℕ) (s t : List ℕ) → length s ≡ p * 4 → records (s ++ t) ≡ records s ++ records t
-unfolding records
-records-append zero [] t e = refl
-records-append zero (x ∷ s) t e = absurd (let z : _<_ 0 0 = omega arith in omega arith)
-records-append (suc p) [] t e = refl
-records-append (suc p) (x ∷ []) t e = absurd (let z : _<_ 0 0 = omega arith in omega arith)
-records-append (suc p) (x ∷ y ∷ []) t e = absurd (let z : _<_ 0 0 = omega arith in omega arith)
-records-append (suc p) (x ∷ y ∷ z ∷ []) t e = absurd (let z : _<_ 0 0 = omega arith in omega arith)
-records-append (suc p) (x ∷ y ∷ z ∷ w ∷ s) t e = ap (λ (r : List Record). recordOf x y z w ∷ r) (records-append p s t (omega arith))
+    rw eq
+    (stored (gap t i n) p x (omega arith)
+    ∙ ap (λ (q : List ℕ). q ++ (laid x ++ drop (i + 4) (gap t i n))) e2
+    ∙ ap (λ (q : List ℕ). take i t ++ (laid x ++ q)) e3)
 
 front : (c : ℕ) (rs ds : List Record) → c ≤ length rs → take c (take (c - 0) rs ++ ds) ≡ take c rs
 front c rs ds h =
@@ -125,10 +89,6 @@ put-in (suc p) zero rs ds x h k = absurd (not-suc-le-zero h)
 put-in (suc p) (suc c) [] ds x h k = absurd (not-suc-le-zero k)
 put-in (suc p) (suc c) (y ∷ rs) ds x h k =
     rw suc-sub-suc (ap (λ (r : List Record). y ∷ r) (put-in p c rs ds x (le-of-suc-le-suc h) (le-of-suc-le-suc k)))
-
-one : (x : Record) (t : List ℕ) → records (laid x ++ t) ≡ x ∷ records t
-unfolding records
-one x t = refl
 
 module _ (t : List ℕ) (count p : ℕ) (x : Record) (h : p ≤ count) (room : count * 4 + 4 ≤ length t) where
   inserted-records : used (inserted t count p x) (count + 1) ≡ insertAt p x (used t count)
@@ -146,7 +106,7 @@ module _ (t : List ℕ) (count p : ℕ) (x : Record) (h : p ≤ count) (room : c
       let e4 : records (take (p * 4) t ++ (laid x ++ (moved ++ past))) ≡ take p (records t) ++ (x ∷ (take (count - p) (drop p (records t)) ++ records past)) =
       e1
       ∙ ap (λ (r : List Record). r ++ records (laid x ++ (moved ++ past))) (records-take p t)
-      ∙ ap (λ (r : List Record). take p (records t) ++ r) (one x (moved ++ past) ∙ ap (λ (r : List Record). x ∷ r) (e2 ∙ ap (λ (r : List Record). r ++ records past) e3)) in
+      ∙ ap (λ (r : List Record). take p (records t) ++ r) (records-laid x (moved ++ past) ∙ ap (λ (r : List Record). x ∷ r) (e2 ∙ ap (λ (r : List Record). r ++ records past) e3)) in
       rw (m, n, add-one)
       (ap (λ (r : List Record). take (suc count) r) e4 ∙ put-in p count (records t) (records past) x h (omega (arith, records-length t)))
 

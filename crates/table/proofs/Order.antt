@@ -15,7 +15,7 @@ all-at P [] a k h = absurd (not-suc-le-zero h)
 all-at P (x ∷ xs) a zero h = a .0
 all-at P (x ∷ xs) a (suc k) h = all-at P xs (a .1) k (le-of-suc-le-suc h)
 
-all-of : (P : Record → Type 0) (xs : List Record) → ((k : ℕ) → k < length xs → P (getD xs k noRecord)) → All P xs
+pub all-of : (P : Record → Type 0) (xs : List Record) → ((k : ℕ) → k < length xs → P (getD xs k noRecord)) → All P xs
 unfolding All
 all-of P [] h = tt
 all-of P (x ∷ xs) h = (h 0 (suc-le-suc zero-le), all-of P xs (λ k l. h (suc k) (suc-le-suc l)))

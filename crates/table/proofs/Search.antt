@@ -1,20 +1,22 @@
--- THE SEARCH BY HALVES among records in order: the turns that bring the two ends together, and what the place says of the finder's reply. As upper
--- ends are in order, one comparison decides a half; a record of the level that holds the remainder is the only one. Assumes nothing.
-use mathlib.Core.Path.{_≡_, refl, sym, _∙_, subst}
+-- THE SEARCH among records in order, by halves or at a guess: the turns that bring the two ends together, and what the place says of the finder's reply. As
+-- upper ends are in order, one comparison decides a half, and all before a record; a record of the level that holds the remainder is the only one.
+-- Assumes nothing.
+use mathlib.Core.Path.{_≡_, refl, sym, ap, _∙_, subst, subst₂}
 use mathlib.Core.Logic.{_⊎_, inl, inr, ⊎-elim}
 use mathlib.Core.List.{List}
-use mathlib.Core.Bool.{Bool, true, false}
-use Prim.Native.Nat.{ℕ, _+_, _*_, _≤_, _<_, zero-le}
-use native.Mathlib.Nat.{not-suc-le-zero, eq-or-lt-of-le}
+use mathlib.Core.Bool.{Bool, true, false, _&&_, true≢false}
+use Prim.Native.Nat.{ℕ, zero, suc, _+_, _-_, _*_, _/_, _≤_, _<_, zero-le}
+use native.Mathlib.Nat.{not-suc-le-zero, eq-or-lt-of-le, mul-le-mul-left}
+use native.Mathlib.Numerals.{add-one}
 use native.Mathlib.Omega.{arith}
 use lib.ListN.{length, getD}
-use lib.Dec.{ltb}
-use borrow.Author.Tests.{ltb-true, ltb-false, lt-ltb, le-ltb}
+use lib.Dec.{leb, ltb}
+use borrow.Author.Tests.{ne-eqb, leb-true, ltb-true, ltb-false, lt-ltb, le-ltb}
 use Rattle.word.specs.Record.{Record, noRecord}
 use Rattle.table.specs.declared.Found.the-variants.{At, Nothing}
 use Rattle.table.specs.Find.{fieldsHold, holds, findIn}
-use Rattle.table.specs.Order.{used, key, Before, Sorted, Placed}
-use Rattle.table.proofs.Flat.{used-at}
+use Rattle.table.specs.Order.{used, key, Before, Sorted, upperKey, Bracket, lastBelow, Low, bitOf, Placed}
+use Rattle.table.proofs.Flat.{used-length, used-at}
 use Rattle.table.proofs.Order.{sorted-at, proper-at, Standing}
 use Rattle.table.proofs.Says.{fields-hold, NoneBefore, find-none, find-first}
 
@@ -26,22 +28,15 @@ key-same l m h x q = go (ltb h x) refl
     go true e = let p : h < x = ltb-true h x e in e ∙ sym (lt-ltb (key l h) (key m x) (omega arith))
     go false e = let p : x ≤ h = ltb-false h x e in e ∙ sym (le-ltb (key l h) (key m x) (omega arith))
 
--- The key of record k's upper end.
-abbrev pub upperKey : List Record → ℕ → ℕ
-upperKey xs k = key (getD xs k noRecord .level) (getD xs k noRecord .upper)
-
 uppers : (xs : List Record) → Sorted xs → (p q : ℕ) → p ≤ q → q < length xs → upperKey xs p ≤ upperKey xs q
 uppers xs s p q l h = ⊎-elim
     (λ e. subst (λ (n : ℕ). upperKey xs p ≤ upperKey xs n) e (omega arith))
     (λ m. let a = sorted-at xs s p q m h in let b = proper-at xs s q h in omega arith)
     (eq-or-lt-of-le l)
 
--- The place is not before lo and not after hi.
-pub record Bracket (xs : List Record) (level x lo hi : ℕ) : Type 0 where
-  pub ends : lo ≤ hi
-  pub within : hi ≤ length xs
-  pub before : (k : ℕ) → k < lo → upperKey xs k < key level x
-  pub after : (k : ℕ) → hi ≤ k → k < length xs → key level x ≤ upperKey xs k
+both-true : (a b : Bool) → (a && b) ≡ true → (a ≡ true) × (b ≡ true)
+both-true true b e = (refl, e)
+both-true false b e = absurd (true≢false (sym e))
 
 pub bracket-start : (xs : List Record) (level x n : ℕ) → n ≡ length xs → Bracket xs level x 0 n
 bracket-start xs level x n e = record {
@@ -74,6 +69,59 @@ module _ (xs : List Record) (s : Sorted xs) (level x lo hi m : ℕ) (b : Bracket
         omega arith;
   }
 
+-- A bracket may be made wider at its end.
+pub bracket-wider : (xs : List Record) (level x lo hi top : ℕ) → Bracket xs level x lo hi → hi ≤ top → top ≤ length xs → Bracket xs level x lo top
+bracket-wider xs level x lo hi top b h w = record { ends = omega (arith, b .ends); within = w; before = b .before; after = λ k l i. b .after k (omega arith) i }
+
+-- A difference of keys tells which is below: it reaches half of what 64 bits hold.
+pub bit-law : (a b : ℕ) → a < 9223372036854775808 → b < 9223372036854775808 → (b + 9223372036854775807 - a) / 9223372036854775808 ≡ bitOf (ltb a b)
+bit-law a b h k = go (ltb a b) refl
+  where
+    go : (q : Bool) → ltb a b ≡ q → (b + 9223372036854775807 - a) / 9223372036854775808 ≡ bitOf q
+    go true e = let l = ltb-true a b e in omega arith
+    go false e = let l = ltb-false a b e in omega arith
+
+pub bit-most : (b x y : ℕ) → b ≡ bitOf (ltb x y) → b ≤ 1
+bit-most b x y e = go (ltb x y) e
+  where
+    go : (q : Bool) → b ≡ bitOf q → b ≤ 1
+    go true f = omega arith
+    go false f = omega arith
+
+bit-times : (h b x y : ℕ) → b ≡ bitOf (ltb x y) → h * b ≤ h
+bit-times h b x y e = omega (arith, mul-le-mul-left h (bit-most b x y e))
+
+-- A turn without a branch: half of what is left, rounded up, lies before the place, or at most the other half does.
+pub bracket-half : (xs : List Record) → Sorted xs → (level x p left half b : ℕ) → 0 < left → half ≡ left - left / 2 → Bracket xs level x p (p + left)
+    → b ≡ bitOf (ltb (upperKey xs (p + half - 1)) (key level x)) → Bracket xs level x (p + half * b) (p + half * b + (left - half))
+bracket-half xs s level x p left half b some is B e = go (ltb (upperKey xs (p + half - 1)) (key level x)) refl e
+  where
+    go : (q : Bool) → ltb (upperKey xs (p + half - 1)) (key level x) ≡ q → b ≡ bitOf (ltb (upperKey xs (p + half - 1)) (key level x)) → Bracket xs level x (p + half * b) (p + half * b + (left - half))
+    go true t f =
+        let one : b ≡ 1 = f ∙ ap bitOf t in
+        let lo : p + half - 1 + 1 ≡ p + half * b = rw one (omega arith) in
+        let hi : p + left ≡ p + half * b + (left - half) = rw one (omega arith) in
+        subst₂ (Bracket xs level x) lo hi (bracket-up xs s level x p (p + left) (p + half - 1) B (omega arith) (omega arith) t)
+    go false t f =
+        let none : b ≡ 0 = f ∙ ap bitOf t in
+        let lo : p ≡ p + half * b = rw none (omega arith) in
+        let hi : p + (left - half) ≡ p + half * b + (left - half) = rw none (omega arith) in
+        subst₂ (Bracket xs level x) lo hi
+        (bracket-wider xs level x p (p + half - 1) (p + (left - half)) (bracket-down xs s level x p (p + left) (p + half - 1) B (omega arith) (omega arith) t) (omega arith) (omega (arith, B .within)))
+
+-- The last of records in order has the highest level.
+pub low-last : (xs : List Record) → Sorted xs → (n : ℕ) → length xs ≡ suc n → getD xs n noRecord .level < 2147483648 → Low xs
+low-last xs s n e h k l = let a = uppers xs s k n (omega arith) (omega arith) in let b = proper-at xs s n (omega arith) in let c = proper-at xs s k l in omega (arith, b .1, c .1)
+
+-- Where the last of n records lies before x, so do all of them: the place is not before n.
+pub bracket-from : (xs : List Record) → Sorted xs → (level x n count : ℕ) → count ≡ length xs → lastBelow xs level x n ≡ true → Bracket xs level x n count
+bracket-from xs s level x zero count e h = bracket-start xs level x count e
+bracket-from xs s level x (suc m) count e h =
+    let less : suc m - 1 ≡ m = omega arith in
+    let both = both-true (leb (suc m) (length xs)) (ltb (upperKey xs m) (key level x)) (rw (less, ne-eqb (suc m) 0 (λ z. absurd (omega arith))) at h) in
+    let inside : suc m ≤ length xs = leb-true (suc m) (length xs) (both .0) in
+    rw (add-one m) at (bracket-up xs s level x 0 count m (bracket-start xs level x count e) zero-le (omega arith) (both .1))
+
 pub bracket-met : (xs : List Record) (level x lo hi : ℕ) → Bracket xs level x lo hi → hi ≤ lo → Placed xs level x lo
 bracket-met xs level x lo hi b h = record {
   within = omega (arith, b .ends, b .within);
@@ -100,14 +148,15 @@ find-there xs s wanted r x at l a b =
     none j m = not-held (getD xs j noRecord) wanted r
         (λ e f g. let o : Before (getD xs j noRecord) x = rw (at .here) at (sorted-at xs s j (at .k) m (at .within)) in omega arith)
 
--- What the place says of the finder's reply.
-module _ (xs : List Record) (s : Sorted xs) (wanted r p : ℕ) (pl : Placed xs wanted r p) where
-  pub place-hit : p < length xs → holds (getD xs p noRecord) wanted r ≡ true → At (record { 0 = p }) ≡ findIn xs wanted r
-  place-hit h e =
-      let x : Record = getD xs p noRecord in
-      let t = fields-hold (x .level) (x .lower) (x .upper) wanted r .0 e in
-      sym (find-there xs s wanted r x (record { k = p; within = h; here = refl }) (t .0) (t .1) (t .2))
+-- A record that holds the remainder is the finder's reply.
+pub record-hit : (xs : List Record) → Sorted xs → (wanted r p : ℕ) → p < length xs → holds (getD xs p noRecord) wanted r ≡ true → At (record { 0 = p }) ≡ findIn xs wanted r
+record-hit xs s wanted r p h e =
+    let x : Record = getD xs p noRecord in
+    let t = fields-hold (x .level) (x .lower) (x .upper) wanted r .0 e in
+    sym (find-there xs s wanted r x (record { k = p; within = h; here = refl }) (t .0) (t .1) (t .2))
 
+-- Where the record at the place does not hold it, none does.
+module _ (xs : List Record) (s : Sorted xs) (wanted r p : ℕ) (pl : Placed xs wanted r p) where
   pub place-miss : (p < length xs → holds (getD xs p noRecord) wanted r ≡ false) → Nothing ≡ findIn xs wanted r
   place-miss e = sym (find-none xs 0 wanted r none)
     where
@@ -131,3 +180,13 @@ module _ (t : List ℕ) (count : ℕ) (room : count * 4 ≤ length t) (m : ℕ) 
   pub words-hold : b ≡ fieldsHold (getD t (m * 4) 0) (getD t (m * 4 + 1) 0) (getD t (m * 4 + 2) 0) level r
       → holds (getD (used t count) m noRecord) level r ≡ v
   words-hold e = rw (used-at t count room m h) (sym e ∙ value)
+
+pub words-bit : (t : List ℕ) (count : ℕ) → count * 4 ≤ length t → (m : ℕ) → m < count → (level r b : ℕ) → b ≡ bitOf (ltb (key (getD t (m * 4) 0) (getD t (m * 4 + 2) 0)) (key level r))
+    → b ≡ bitOf (ltb (upperKey (used t count) m) (key level r))
+words-bit t count room m h level r b e = rw (used-at t count room m h) e
+
+pub words-low : (t : List ℕ) (count : ℕ) → count * 4 ≤ length t → Low (used t count) → (m : ℕ) → m < count → getD t (m * 4) 0 < 2147483648
+words-low t count room low m h = rw (used-at t count room m h) at (low m (omega (arith, used-length t count room)))
+
+pub words-bit-times : (t : List ℕ) (m level r h b : ℕ) → b ≡ bitOf (ltb (key (getD t (m * 4) 0) (getD t (m * 4 + 2) 0)) (key level r)) → h * b ≤ h
+words-bit-times t m level r h b e = bit-times h b (key (getD t (m * 4) 0) (getD t (m * 4 + 2) 0)) (key level r) e

@@ -1,9 +1,11 @@
 -- RECORDS IN ORDER: by level, then by label, no two labels of a level overlapping; the place of a remainder among them, and putting a record in.
 -- Assumes nothing.
-use Prim.Native.Nat.{ℕ, zero, suc, _+_, _*_, _≤_, _<_}
+use Prim.Native.Nat.{ℕ, zero, suc, _+_, _-_, _*_, _≤_, _<_}
 use mathlib.Core.Logic.{_⊎_}
+use mathlib.Core.Bool.{Bool, true, false, _&&_, _||_}
 use mathlib.Core.Path.{_≡_}
 use mathlib.Core.List.{List, [], _∷_}
+use lib.Dec.{eqb, leb, ltb}
 use lib.ListN.{length, getD, take}
 use Rattle.word.specs.Record.{Record, records, noRecord}
 
@@ -42,6 +44,34 @@ pub record Placed (xs : List Record) (level x p : ℕ) : Type 0 where
   pub within : p ≤ length xs
   pub before : (k : ℕ) → k < p → key (getD xs k noRecord .level) (getD xs k noRecord .upper) < key level x
   pub after : (k : ℕ) → p ≤ k → k < length xs → key level x ≤ key (getD xs k noRecord .level) (getD xs k noRecord .upper)
+
+-- The key of record k's upper end.
+abbrev pub upperKey : List Record → ℕ → ℕ
+upperKey xs k = key (getD xs k noRecord .level) (getD xs k noRecord .upper)
+
+-- The place of x at the level is not before lo and not after hi.
+pub record Bracket (xs : List Record) (level x lo hi : ℕ) : Type 0 where
+  pub ends : lo ≤ hi
+  pub within : hi ≤ length xs
+  pub before : (k : ℕ) → k < lo → upperKey xs k < key level x
+  pub after : (k : ℕ) → hi ≤ k → k < length xs → key level x ≤ upperKey xs k
+
+-- Levels are low below this number: then keys differ by less than half of what 64 bits hold.
+abbrev pub lowLevels : ℕ
+lowLevels = 2147483648
+
+abbrev pub Low : List Record → Type 0
+Low xs = (k : ℕ) → k < length xs → getD xs k noRecord .level < lowLevels
+
+-- A yes as the number 1, a no as 0.
+abbrev pub bitOf : Bool → ℕ
+bitOf true = 1
+bitOf false = 0
+
+-- There are n records, and the last of them, where n is not 0, lies wholly before x at the level.
+abbrev pub lastBelow : List Record → ℕ → ℕ → ℕ → Bool
+lastBelow xs level x n =
+    eqb n 0 || (leb n (length xs) && ltb (key (getD xs (n - 1) noRecord .level) (getD xs (n - 1) noRecord .upper)) (key level x))
 
 -- A record put in at number p.
 unfoldable pub insertAt : ℕ → Record → List Record → List Record

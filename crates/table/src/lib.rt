@@ -1,5 +1,5 @@
 // The finder over a flat table of node records.
-pub mod ordered; // records in order: the search by halves and the insertion
+pub mod ordered; // records in order: the search and the insertion
 
 use word::NodeNumber;
 use word::RECORD;

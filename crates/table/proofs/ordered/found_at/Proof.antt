@@ -1,21 +1,17 @@
--- `table::ordered::find_sorted` meets its contract: the record at the place is the only one that can hold the remainder, and the test decides whether
+-- `table::ordered::found_at` meets its contract: the record at the place is the only one that can hold the remainder, and the test decides whether
 -- it does. Assumes nothing.
 use borrow.Author.Needs.{needs}
 use native.Mathlib.Omega.{arith}
 use Rattle.table.proofs.Flat.{used-length}
-use Rattle.table.proofs.Search.{place-hit, place-miss, words-hold}
-use Rattle.table.proofs.ordered.find_sorted.Statement.{statement}
-use Rattle.table.proofs.ordered.find_sorted.Tie as tie
-
-place-requires : tie.Need-place-requires
-place-requires c κs = search needs
+use Rattle.table.proofs.Search.{record-hit, place-miss, words-hold}
+use Rattle.table.proofs.ordered.found_at.Statement.{statement}
+use Rattle.table.proofs.ordered.found_at.Tie as tie
 
 returns : tie.Need-returns
 returns c =
-    let a = c .before .before .before in
-    let pl = c .before .place in
+    let a = c .before .before in
     let n = used-length (a .args .table .now) (a .args .count) (a .pre .0) in
-    place-miss _ (a .pre .1) _ _ (pl .result) (pl .ensures) (λ l. absurd (omega arith))
+    place-miss _ (a .pre .1) _ _ (a .args .p) (a .pre .2) (λ l. absurd (omega arith))
 
 mul-b : tie.Need-mul-b
 mul-b c = search needs
@@ -49,24 +45,21 @@ holds-requires c κs = search needs
 
 returns-2 : tie.Need-returns-2
 returns-2 c =
-    let a = c .before .before .before .before .before .before .before .before in
-    let pl = c .before .before .before .before .before .before .place in
+    let a = c .before .before .before .before .before .before .before in
     let n = used-length (a .args .table .now) (a .args .count) (a .pre .0) in
-    let test = words-hold _ _ (a .pre .0) (pl .result) (omega arith) _ _ _ _ (c .if2 .taken) (c .before .holds .ensures) in
-    place-hit _ (a .pre .1) _ _ (pl .result) (pl .ensures) (omega arith) test
+    let test = words-hold _ _ (a .pre .0) (a .args .p) (omega arith) _ _ _ _ (c .if2 .taken) (c .before .holds .ensures) in
+    record-hit _ (a .pre .1) _ _ (a .args .p) (omega arith) test
 
 returns-3 : tie.Need-returns-3
 returns-3 c =
-    let a = c .before .before .before .before .before .before .before .before in
-    let pl = c .before .before .before .before .before .before .place in
-    let test = words-hold _ _ (a .pre .0) (pl .result) (omega arith) _ _ _ _ (c .if2 .left) (c .before .holds .ensures) in
-    place-miss _ (a .pre .1) _ _ (pl .result) (pl .ensures) (λ l. test)
+    let a = c .before .before .before .before .before .before .before in
+    let test = words-hold _ _ (a .pre .0) (a .args .p) (omega arith) _ _ _ _ (c .if2 .left) (c .before .holds .ensures) in
+    place-miss _ (a .pre .1) _ _ (a .args .p) (a .pre .2) (λ l. test)
 
-pub find-sorted-spec : {M : Type 1} → statement M
-find-sorted-spec =
+pub found-at-spec : {M : Type 1} → statement M
+found-at-spec =
     tie.close
     (tie.spec
-    place-requires
     returns
     mul-b
     mul-holds

@@ -1,0 +1,74 @@
+-- `table::ordered::walk` keeps within the table, and ends: the measure is the number of records from p on. Assumes nothing.
+use borrow.Author.Needs.{needs}
+use Prim.Native.Nat.{_-_}
+use Rattle.table.proofs.ordered.walk.Statement.{statement}
+use Rattle.table.proofs.ordered.walk.Tie as tie
+
+abbrev Inv-loop : tie.InvT-loop
+Inv-loop table count from level sought p₀ p = Unit
+
+abbrev μ-loop : tie.MeasureT-loop
+μ-loop table count from level sought p₀ p = count - p
+
+key-of-requires : tie.Need-key-of-requires Inv-loop μ-loop
+key-of-requires c κs = search needs
+
+loop-holds : tie.Need-loop-holds Inv-loop μ-loop
+loop-holds c = search needs
+
+mul-b : tie.Need-mul-b Inv-loop μ-loop
+mul-b c = search needs
+
+mul-key-of : tie.Need-mul-key-of Inv-loop μ-loop
+mul-key-of c = search needs
+
+shared-slice-read-key-of : tie.Need-shared-slice-read-key-of Inv-loop μ-loop
+shared-slice-read-key-of c = search needs
+
+add-key-of : tie.Need-add-key-of Inv-loop μ-loop
+add-key-of c = search needs
+
+mul-key-of-2 : tie.Need-mul-key-of-2 Inv-loop μ-loop
+mul-key-of-2 c = search needs
+
+shared-slice-read-key-of-2 : tie.Need-shared-slice-read-key-of-2 Inv-loop μ-loop
+shared-slice-read-key-of-2 c = search needs
+
+key-of-requires-2 : tie.Need-key-of-requires-2 Inv-loop μ-loop
+key-of-requires-2 c κs = search needs
+
+returns : tie.Need-returns Inv-loop μ-loop
+returns c = search needs
+
+add-p : tie.Need-add-p Inv-loop μ-loop
+add-p c = search needs
+
+loop-less : tie.Need-loop-less Inv-loop μ-loop
+loop-less c = search needs
+
+loop-again : tie.Need-loop-again Inv-loop μ-loop
+loop-again c = search needs
+
+returns-2 : tie.Need-returns-2 Inv-loop μ-loop
+returns-2 c = search needs
+
+pub walk-spec : {M : Type 1} → statement M
+walk-spec =
+    tie.close
+    (tie.spec
+    Inv-loop
+    μ-loop
+    key-of-requires
+    loop-holds
+    mul-b
+    mul-key-of
+    shared-slice-read-key-of
+    add-key-of
+    mul-key-of-2
+    shared-slice-read-key-of-2
+    key-of-requires-2
+    returns
+    add-p
+    loop-less
+    loop-again
+    returns-2)
