@@ -1,6 +1,7 @@
 // Where in the first run the record of a remainder may stand: a guess, by counts that the lent words keep behind those for merging. For each level they count the
-// records that end before each of 512 parts of the remainders. Whoever uses a guess tests it; no promise rests on these functions, so all that they promise is
+// records that end before each part of the remainders. Whoever uses a guess tests it; no promise rests on these functions, so all that they promise is
 // to keep within the lists.
+use super::LONGEST;
 use table::ordered;
 use word::RECORD;
 use word::Remainder;
@@ -10,15 +11,18 @@ ghost use Prim.Native.Nat.{_+_, _*_, _≤_, _<_};
 ghost use lib.ListN.{length};
 
 // The words for merging, as many as the longest second run has. Behind them stands the number of levels that are counted.
-const MERGING: usize = 2048;
+const MERGING: usize = LONGEST * RECORD;
 
 // The most levels that are counted; those behind are searched without a guess.
 const LEVELS: usize = 64;
 
-// The words of a level: the number of records of the levels before it, the shift from a remainder to its part, and the counts at 513 ends of parts.
-const LEVEL: usize = 515;
+// The parts of a level's remainders.
+const PARTS: u32 = 512;
 
-// The shift that leaves at most nine bits of a number.
+// The words of a level: the number of records of the levels before it, the shift from a remainder to its part, and the counts at the ends of the parts.
+const LEVEL: usize = PARTS as usize + 3;
+
+// The shift that leaves at most nine bits of a number, as many as number the parts.
 fn shift(most: u32) -> u32 {
     let zeros = u32::leading_zeros(most);
     if zeros < 23 { 23 - zeros } else { 0 }
@@ -42,7 +46,7 @@ pub fn prepare(work: &mut [u32], rests: &[u32])
         if work.len() < at + LEVEL {
             return;
         }
-        if rests.len() <= i {
+        if rests.len() <= i + 1 {
             return;
         }
         work[MERGING] = i as u32 + 1;
@@ -93,7 +97,7 @@ fn count_level(
     let mut n: u32 = 0;
     let mut from = at + 2;
     while of_level(table, count, e, level) {
-        let up = at + 3 + ((table[e * RECORD + 2] >> bits) % 512) as usize;
+        let up = at + 3 + ((table[e * RECORD + 2] >> bits) % PARTS) as usize;
         add_to(work, from, up, n);
         from = up;
         n = std::num::wrapping_add_u32(n, 1);
@@ -121,37 +125,15 @@ pub fn count_run(table: &[u32], work: &mut [u32], main: usize, count: usize)
             return;
         }
         k = count_level(table, work, count, k, i + 1, at);
-        let all = work[at + 514];
+        let all = work[at + LEVEL - 1];
         work[at] = sum;
         sum = std::num::wrapping_add_u32(sum, all);
         i += 1;
     }
 }
 
-// Whether the record lies before the remainder, as 1 or 0, for levels below 128, as those of a constraint are.
-fn below_bit(level: u32, upper: u32, wanted: u32, x: u32) -> usize
-    ensures { λ b. ⌜ b ≤ 1 ⌝ }
-{
-    ordered::below_bit(level % 128, upper, wanted % 128, Remainder(x))
-}
-
-// The place of the remainder, where it is at most n records on from lo.
-fn search(table: &[u32], lo: usize, n: usize, level: u32, x: u32) -> usize
-    requires { ⌜ (lo + n) * 4 ≤ length (now table) ⌝ }
-    ensures { λ p. ⌜ p ≤ lo + n ⌝ }
-{
-    let mut p = lo;
-    let mut left = n;
-    while 0 < left {
-        let half = left - (left >> 1);
-        let b = (p + half - 1) * RECORD;
-        p += half * below_bit(table[b], table[b + 2], level, x);
-        left -= half;
-    }
-    p
-}
-
-// The same among the records of a part, which are those from the one count up to the other behind the start of their level; 0 where these do not lie in the run.
+// The place of the remainder among the records of a part, which are those from the one count up to the other behind the start of their level; 0 where these do not
+// lie in the run.
 fn search_part(
     table: &[u32],
     main: usize,
@@ -159,7 +141,7 @@ fn search_part(
     from: u32,
     up: u32,
     level: u32,
-    x: u32,
+    r: Remainder,
 ) -> usize
     requires { ⌜ main * 4 ≤ length (now table) ⌝ }
     ensures { λ p. ⌜ p ≤ main ⌝ }
@@ -172,7 +154,7 @@ fn search_part(
     if main < lo + n {
         return 0;
     }
-    search(table, lo, n, level, x)
+    ordered::narrow(table, lo, n, level, r)
 }
 
 // The number of the record of the first run that may hold the remainder.
@@ -180,7 +162,6 @@ pub fn guess(table: &[u32], work: &[u32], main: usize, level: u32, r: Remainder)
     requires { ⌜ main * 4 ≤ length (now table) ⌝ }
     ensures { λ p. ⌜ p ≤ main ⌝ }
 {
-    let x = r.0;
     if level == 0 {
         return 0;
     }
@@ -188,7 +169,8 @@ pub fn guess(table: &[u32], work: &[u32], main: usize, level: u32, r: Remainder)
     if work.len() < at + LEVEL {
         return 0;
     }
-    let part = (x >> (work[at + 1] % 32)) % 512;
+    let x = r.0;
+    let part = (x >> (work[at + 1] % 32)) % PARTS;
     let k = at + 2 + part as usize;
-    search_part(table, main, work[at], work[k], work[k + 1], level, x)
+    search_part(table, main, work[at], work[k], work[k + 1], level, r)
 }

@@ -17,6 +17,9 @@ ghost use Rattle.table.specs.Order.{used, Sorted};
 ghost use Rattle.table.specs.Find.{findIn};
 ghost use Rattle.runs.specs.Runs.{run, Merged, Settled, PutIn};
 
+// The most records of the second run.
+const LONGEST: usize = 512;
+
 // Sets the lent words for an empty table of levels whose greatest remainders are given.
 pub fn prepare(work: &mut [u32], rests: &[u32])
     ensures { λ _. ⌜ length (now (work .exit)) ≡ length (now (work .entry)) ⌝ }
@@ -65,7 +68,7 @@ fn limit(main: usize) -> usize
     ensures { λ n. ⌜ n ≡ min (32 + main / 64) 512 ⌝ }
 {
     let most = 32 + main / 64;
-    if most < 512 { most } else { 512 }
+    if most < LONGEST { most } else { LONGEST }
 }
 
 // Merges the runs where the second is as long as it may be; how many records the first run has then.

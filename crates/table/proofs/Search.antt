@@ -5,7 +5,7 @@ use mathlib.Core.Path.{_≡_, refl, sym, ap, _∙_, subst, subst₂}
 use mathlib.Core.Logic.{_⊎_, inl, inr, ⊎-elim}
 use mathlib.Core.List.{List}
 use mathlib.Core.Bool.{Bool, true, false, _&&_, true≢false}
-use Prim.Native.Nat.{ℕ, zero, suc, _+_, _-_, _*_, _/_, _≤_, _<_, zero-le}
+use Prim.Native.Nat.{ℕ, zero, suc, _+_, _-_, _*_, _/_, _%_, _≤_, _<_, zero-le}
 use native.Mathlib.Nat.{not-suc-le-zero, eq-or-lt-of-le, mul-le-mul-left}
 use native.Mathlib.Numerals.{add-one}
 use native.Mathlib.Omega.{arith}
@@ -15,7 +15,7 @@ use borrow.Author.Tests.{ne-eqb, leb-true, ltb-true, ltb-false, lt-ltb, le-ltb}
 use Rattle.word.specs.Record.{Record, noRecord}
 use Rattle.table.specs.declared.Found.the-variants.{At, Nothing}
 use Rattle.table.specs.Find.{fieldsHold, holds, findIn}
-use Rattle.table.specs.Order.{used, key, Before, Sorted, upperKey, Bracket, lastBelow, Low, bitOf, Placed}
+use Rattle.table.specs.Order.{used, key, Before, Sorted, upperKey, Bracket, lastBelow, Low, hits, bitOf, Placed}
 use Rattle.table.proofs.Flat.{used-length, used-at}
 use Rattle.table.proofs.Order.{sorted-at, proper-at, Standing}
 use Rattle.table.proofs.Says.{fields-hold, NoneBefore, find-none, find-first}
@@ -149,7 +149,7 @@ find-there xs s wanted r x at l a b =
         (λ e f g. let o : Before (getD xs j noRecord) x = rw (at .here) at (sorted-at xs s j (at .k) m (at .within)) in omega arith)
 
 -- A record that holds the remainder is the finder's reply.
-pub record-hit : (xs : List Record) → Sorted xs → (wanted r p : ℕ) → p < length xs → holds (getD xs p noRecord) wanted r ≡ true → At (record { 0 = p }) ≡ findIn xs wanted r
+record-hit : (xs : List Record) → Sorted xs → (wanted r p : ℕ) → p < length xs → holds (getD xs p noRecord) wanted r ≡ true → At (record { 0 = p }) ≡ findIn xs wanted r
 record-hit xs s wanted r p h e =
     let x : Record = getD xs p noRecord in
     let t = fields-hold (x .level) (x .lower) (x .upper) wanted r .0 e in
@@ -181,12 +181,26 @@ module _ (t : List ℕ) (count : ℕ) (room : count * 4 ≤ length t) (m : ℕ) 
       → holds (getD (used t count) m noRecord) level r ≡ v
   words-hold e = rw (used-at t count room m h) (sym e ∙ value)
 
-pub words-bit : (t : List ℕ) (count : ℕ) → count * 4 ≤ length t → (m : ℕ) → m < count → (level r b : ℕ) → b ≡ bitOf (ltb (key (getD t (m * 4) 0) (getD t (m * 4 + 2) 0)) (key level r))
-    → b ≡ bitOf (ltb (upperKey (used t count) m) (key level r))
-words-bit t count room m h level r b e = rw (used-at t count room m h) e
-
-pub words-low : (t : List ℕ) (count : ℕ) → count * 4 ≤ length t → Low (used t count) → (m : ℕ) → m < count → getD t (m * 4) 0 < 2147483648
+words-low : (t : List ℕ) (count : ℕ) → count * 4 ≤ length t → Low (used t count) → (m : ℕ) → m < count → getD t (m * 4) 0 < 2147483648
 words-low t count room low m h = rw (used-at t count room m h) at (low m (omega (arith, used-length t count room)))
 
-pub words-bit-times : (t : List ℕ) (m level r h b : ℕ) → b ≡ bitOf (ltb (key (getD t (m * 4) 0) (getD t (m * 4 + 2) 0)) (key level r)) → h * b ≤ h
-words-bit-times t m level r h b e = bit-times h b (key (getD t (m * 4) 0) (getD t (m * 4 + 2) 0)) (key level r) e
+-- What the search compares, as a bit; low levels are left as they are.
+abbrev pub wordsBit : List ℕ → ℕ → ℕ → ℕ → ℕ
+wordsBit t m level r = bitOf (ltb (key (getD t (m * 4) 0 % 2147483648) (getD t (m * 4 + 2) 0)) (key (level % 2147483648) r))
+
+pub words-bit : (t : List ℕ) (count : ℕ) → count * 4 ≤ length t → Low (used t count) → (m : ℕ) → m < count → (level r b : ℕ) → level < 2147483648 → b ≡ wordsBit t m level r
+    → b ≡ bitOf (ltb (upperKey (used t count) m) (key level r))
+words-bit t count room low m h level r b l e =
+    let own : getD t (m * 4) 0 % 2147483648 ≡ getD t (m * 4) 0 = omega (arith, words-low t count room low m h) in
+    let sought : level % 2147483648 ≡ level = omega arith in
+    rw (used-at t count room m h) (rw (own, sought) at e)
+
+pub words-bit-times : (t : List ℕ) (m level r h b : ℕ) → b ≡ wordsBit t m level r → h * b ≤ h
+words-bit-times t m level r h b e = bit-times h b (key (getD t (m * 4) 0 % 2147483648) (getD t (m * 4 + 2) 0)) (key (level % 2147483648) r) e
+
+-- What the test of one record says of the finder's reply.
+pub hits-reply : (xs : List Record) → Sorted xs → (level r p : ℕ) → hits xs level r p ≡ true → At (record { 0 = p }) ≡ findIn xs level r
+hits-reply xs s level r p e = let b = both-true (ltb p (length xs)) (holds (getD xs p noRecord) level r) e in record-hit xs s level r p (ltb-true p (length xs) (b .0)) (b .1)
+
+pub hits-not : (xs : List Record) (level r p : ℕ) → hits xs level r p ≡ false → p < length xs → holds (getD xs p noRecord) level r ≡ false
+hits-not xs level r p e h = rw (lt-ltb p (length xs) h) at e

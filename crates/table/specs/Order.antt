@@ -8,6 +8,7 @@ use mathlib.Core.List.{List, [], _∷_}
 use lib.Dec.{eqb, leb, ltb}
 use lib.ListN.{length, getD, take}
 use Rattle.word.specs.Record.{Record, records, noRecord}
+use Rattle.table.specs.Find.{holds}
 
 -- The first n records of a list of words.
 abbrev pub used : List ℕ → ℕ → List Record
@@ -39,15 +40,15 @@ unfoldable pub Sorted : List Record → Type 0
 Sorted [] = Unit
 Sorted (x ∷ xs) = Proper x × All (Before x) xs × Sorted xs
 
--- The first p records lie wholly before x at the level, and no other does.
-pub record Placed (xs : List Record) (level x p : ℕ) : Type 0 where
-  pub within : p ≤ length xs
-  pub before : (k : ℕ) → k < p → key (getD xs k noRecord .level) (getD xs k noRecord .upper) < key level x
-  pub after : (k : ℕ) → p ≤ k → k < length xs → key level x ≤ key (getD xs k noRecord .level) (getD xs k noRecord .upper)
-
 -- The key of record k's upper end.
 abbrev pub upperKey : List Record → ℕ → ℕ
 upperKey xs k = key (getD xs k noRecord .level) (getD xs k noRecord .upper)
+
+-- The first p records lie wholly before x at the level, and no other does.
+pub record Placed (xs : List Record) (level x p : ℕ) : Type 0 where
+  pub within : p ≤ length xs
+  pub before : (k : ℕ) → k < p → upperKey xs k < key level x
+  pub after : (k : ℕ) → p ≤ k → k < length xs → key level x ≤ upperKey xs k
 
 -- The place of x at the level is not before lo and not after hi.
 pub record Bracket (xs : List Record) (level x lo hi : ℕ) : Type 0 where
@@ -63,6 +64,18 @@ lowLevels = 2147483648
 abbrev pub Low : List Record → Type 0
 Low xs = (k : ℕ) → k < length xs → getD xs k noRecord .level < lowLevels
 
+-- The first count records are in order and of low levels, as the level is, and the place of x lies between lo and hi.
+pub record Narrowed (t : List ℕ) (count level x lo hi : ℕ) : Type 0 where
+  pub room : count * 4 ≤ length t
+  pub sorted : Sorted (used t count)
+  pub low : Low (used t count)
+  pub level-low : level < lowLevels
+  pub bracket : Bracket (used t count) level x lo hi
+
+-- Record p is there, of the level, and its label holds r.
+abbrev pub hits : List Record → ℕ → ℕ → ℕ → Bool
+hits xs level r p = ltb p (length xs) && holds (getD xs p noRecord) level r
+
 -- A yes as the number 1, a no as 0.
 abbrev pub bitOf : Bool → ℕ
 bitOf true = 1
@@ -71,7 +84,7 @@ bitOf false = 0
 -- There are n records, and the last of them, where n is not 0, lies wholly before x at the level.
 abbrev pub lastBelow : List Record → ℕ → ℕ → ℕ → Bool
 lastBelow xs level x n =
-    eqb n 0 || (leb n (length xs) && ltb (key (getD xs (n - 1) noRecord .level) (getD xs (n - 1) noRecord .upper)) (key level x))
+    eqb n 0 || (leb n (length xs) && ltb (upperKey xs (n - 1)) (key level x))
 
 -- A record put in at number p.
 unfoldable pub insertAt : ℕ → Record → List Record → List Record

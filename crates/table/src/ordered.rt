@@ -7,12 +7,14 @@ use word::Remainder;
 ghost use mathlib.Core.Path.{_≡_};
 ghost use mathlib.Core.Bool.{true};
 ghost use mathlib.Core.List.{_++_};
-ghost use Prim.Native.Nat.{_+_, _-_, _*_, _≤_, _<_};
+ghost use Prim.Native.Nat.{ℕ, _+_, _-_, _*_, _≤_, _<_};
 ghost use lib.Dec.{ltb};
 ghost use lib.ListN.{length, take, drop};
-ghost use Rattle.table.specs.declared.Found.the-variants.{At};
 ghost use Rattle.table.specs.Find.{findIn};
-ghost use Rattle.table.specs.Order.{used, key, Sorted, Placed, Bracket, lastBelow, lowLevels, Low, bitOf, insertAt};
+ghost use Rattle.table.specs.Order.{used, key, Sorted, Placed, lastBelow, lowLevels, Low, Narrowed, hits, bitOf, insertAt};
+
+// Levels are low below this number.
+const LOW: u32 = 2147483648;
 
 // A level and a number of its remainders as one number, so that one comparison decides.
 pub fn key_of(level: u32, x: u32) -> u64
@@ -45,18 +47,17 @@ pub fn below_bit(level: u32, upper: u32, wanted: u32, r: Remainder) -> usize
     ((sought + 9223372036854775807 - record) >> 63) as usize
 }
 
-// The place of the remainder among records in order of low levels, which is not before lo and at most n records on.
-fn narrow(table: &[u32], count: usize, lo: usize, n: usize, level: u32, r: Remainder) -> usize
-    requires { ⌜ (count * 4 ≤ length (now table)) × Sorted (used (now table) count) × Low (used (now table) count) × (level < lowLevels) ⌝ }
-    requires { ⌜ Bracket (used (now table) count) level (r .0) lo (lo + n) ⌝ }
-    ensures { λ p. ⌜ Placed (used (now (table .entry)) count) level (r .0) p ⌝ }
+// The place of the remainder among records in order of low levels, where it is not before lo and at most n records on; among other records a number there.
+pub fn narrow(table: &[u32], lo: usize, n: usize, level: u32, r: Remainder) -> usize
+    requires { ⌜ (lo + n) * 4 ≤ length (now table) ⌝ }
+    ensures { λ p. ⌜ (p ≤ lo + n) × ((count : ℕ) → Narrowed (now (table .entry)) count level (r .0) lo (lo + n) → Placed (used (now (table .entry)) count) level (r .0) p) ⌝ }
 {
     let mut p = lo;
     let mut left = n;
     while 0 < left {
         let half = left - (left >> 1);
         let b = (p + half - 1) * RECORD;
-        p += half * below_bit(table[b], table[b + 2], level, r);
+        p += half * below_bit(table[b] % LOW, table[b + 2], level % LOW, r);
         left -= half;
     }
     p
@@ -86,13 +87,13 @@ fn low(table: &[u32], count: usize, level: u32) -> bool
     requires { ⌜ (count * 4 ≤ length (now table)) × Sorted (used (now table) count) ⌝ }
     ensures { λ b. ⌜ (b ≡ true → Low (used (now (table .entry)) count) × (level < lowLevels)) ⌝ }
 {
-    if 2147483648 <= level {
+    if LOW <= level {
         return false;
     }
     if count == 0 {
         return true;
     }
-    table[(count - 1) * RECORD] < 2147483648
+    table[(count - 1) * RECORD] < LOW
 }
 
 // How many of the first `count` records, which are in order, lie wholly before the remainder at the level.
@@ -101,7 +102,7 @@ pub fn place(table: &[u32], count: usize, level: u32, r: Remainder) -> usize
     ensures { λ p. ⌜ Placed (used (now (table .entry)) count) level (r .0) p ⌝ }
 {
     if low(table, count, level) {
-        return narrow(table, count, 0, count, level, r);
+        return narrow(table, 0, count, level, r);
     }
     place_any(table, count, level, r)
 }
@@ -121,16 +122,24 @@ fn last_below(table: &[u32], count: usize, n: usize, level: u32, r: Remainder) -
     below(table[b], table[b + 2], level, r)
 }
 
+// Whether record p is one of the first `count` and holds the remainder.
+fn hit(table: &[u32], count: usize, p: usize, level: u32, r: Remainder) -> bool
+    requires { ⌜ count * 4 ≤ length (now table) ⌝ }
+    ensures { λ b. ⌜ b ≡ hits (used (now (table .entry)) count) level (r .0) p ⌝ }
+{
+    if p < count {
+        let b = p * RECORD;
+        return holds(table[b], table[b + 1], table[b + 2], level, r);
+    }
+    false
+}
+
 // The finder's reply on the first `count` records, which are in order, from the place of the remainder among them.
 fn found_at(table: &[u32], count: usize, p: usize, level: u32, r: Remainder) -> Found
     requires { ⌜ (count * 4 ≤ length (now table)) × Sorted (used (now table) count) × Placed (used (now table) count) level (r .0) p ⌝ }
     ensures { λ f. ⌜ f ≡ findIn (used (now (table .entry)) count) level (r .0) ⌝ }
 {
-    if count <= p {
-        return Found::Nothing;
-    }
-    let b = p * RECORD;
-    if holds(table[b], table[b + 1], table[b + 2], level, r) {
+    if hit(table, count, p, level, r) {
         return Found::At(NodeNumber(p));
     }
     Found::Nothing
@@ -177,18 +186,6 @@ fn find_place(table: &[u32], count: usize, guess: usize, level: u32, r: Remainde
 {
     let p = place_near(table, count, guess, level, r);
     found_at(table, count, p, level, r)
-}
-
-// Whether record p is one of the first `count`, which are in order, and holds the remainder: then it is the finder's reply.
-fn hit(table: &[u32], count: usize, p: usize, level: u32, r: Remainder) -> bool
-    requires { ⌜ (count * 4 ≤ length (now table)) × Sorted (used (now table) count) ⌝ }
-    ensures { λ b. ⌜ (b ≡ true → At (record { 0 = p }) ≡ findIn (used (now (table .entry)) count) level (r .0)) ⌝ }
-{
-    if p < count {
-        let b = p * RECORD;
-        return holds(table[b], table[b + 1], table[b + 2], level, r);
-    }
-    false
 }
 
 // The same reply, whatever the guess is: a record that holds the remainder, and else by way of the place.

@@ -52,6 +52,9 @@ count-level-requires c κs = search needs
 add-all : tie.Need-add-all Inv-loop μ-loop
 add-all c = search needs
 
+sub-all : tie.Need-sub-all Inv-loop μ-loop
+sub-all c = search needs
+
 mul-all : tie.Need-mul-all Inv-loop μ-loop
 mul-all c = search needs
 
@@ -104,6 +107,7 @@ count-run-spec =
     add-count-level
     count-level-requires
     add-all
+    sub-all
     mul-all
     slice-read-all
     mul-work

@@ -35,6 +35,9 @@ same-length c = search needs
 returns : tie.Need-returns Inv-loop μ-loop
 returns c = search needs
 
+add-if2 : tie.Need-add-if2 Inv-loop μ-loop
+add-if2 c = search needs
+
 same-length-2 : tie.Need-same-length-2 Inv-loop μ-loop
 same-length-2 c = search needs
 
@@ -87,6 +90,7 @@ prepare-spec =
     add-if1
     same-length
     returns
+    add-if2
     same-length-2
     returns-2
     cast-work

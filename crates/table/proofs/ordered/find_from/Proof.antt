@@ -1,5 +1,7 @@
 -- `table::ordered::find_from` meets its contract, by those of the test and of the search, wherever the walk ends. Assumes nothing.
+use mathlib.Core.Path.{sym, _∙_}
 use borrow.Author.Needs.{needs}
+use Rattle.table.proofs.Search.{hits-reply}
 use Rattle.table.proofs.ordered.find_from.Statement.{statement}
 use Rattle.table.proofs.ordered.find_from.Tie as tie
 
@@ -10,7 +12,7 @@ hit-requires : tie.Need-hit-requires
 hit-requires c κs = search needs
 
 returns : tie.Need-returns
-returns c = c .before .hit .ensures (c .if1 .taken)
+returns c = let a = c .before .before .before .before .before in hits-reply _ (a .pre .1) _ _ (c .before .before .walk .result) (sym (c .before .hit .ensures) ∙ c .if1 .taken)
 
 find-place-requires : tie.Need-find-place-requires
 find-place-requires c κs = search needs

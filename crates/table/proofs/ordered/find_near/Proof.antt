@@ -1,5 +1,7 @@
 -- `table::ordered::find_near` meets its contract: the record that holds the remainder, or else the reply by way of the place. Assumes nothing.
+use mathlib.Core.Path.{sym, _∙_}
 use borrow.Author.Needs.{needs}
+use Rattle.table.proofs.Search.{hits-reply}
 use Rattle.table.proofs.ordered.find_near.Statement.{statement}
 use Rattle.table.proofs.ordered.find_near.Tie as tie
 
@@ -7,7 +9,7 @@ hit-requires : tie.Need-hit-requires
 hit-requires c κs = search needs
 
 returns : tie.Need-returns
-returns c = c .before .hit .ensures (c .if1 .taken)
+returns c = let a = c .before .before .before in hits-reply _ (a .pre .1) _ _ (a .args .guess) (sym (c .before .hit .ensures) ∙ c .if1 .taken)
 
 find-place-requires : tie.Need-find-place-requires
 find-place-requires c κs = search needs

@@ -1,10 +1,11 @@
--- `table::ordered::hit` meets its contract: among records in order the one that holds the remainder is the only one. Assumes nothing.
-use mathlib.Core.Path.{sym}
-use mathlib.Core.Bool.{true≢false}
+-- `table::ordered::hit` meets its contract: the words of record p are the record. Assumes nothing.
+use mathlib.Core.Path.{refl}
+use lib.ListN.{length}
+use borrow.Author.Tests.{lt-ltb, le-ltb}
 use native.Mathlib.Omega.{arith}
 use borrow.Author.Needs.{needs}
-use Rattle.table.proofs.Flat.{used-length}
-use Rattle.table.proofs.Search.{record-hit, words-hold}
+use Rattle.table.specs.Order.{used}
+use Rattle.table.proofs.Flat.{used-length, used-at}
 use Rattle.table.proofs.ordered.hit.Statement.{statement}
 use Rattle.table.proofs.ordered.hit.Tie as tie
 
@@ -39,14 +40,16 @@ holds-requires : tie.Need-holds-requires
 holds-requires c κs = search needs
 
 returns : tie.Need-returns
-returns c e =
+returns c =
     let a = c .before .before .before .before .before .before in
-    let n = used-length (a .args .table .now) (a .args .count) (a .pre .0) in
-    let test = words-hold _ _ (a .pre .0) (a .args .p) (omega arith) _ _ _ _ e (c .holds .ensures) in
-    record-hit _ (a .pre .1) _ _ (a .args .p) (omega arith) test
+    let n = used-length (a .args .table .now) (a .args .count) (a .pre) in
+    rw (lt-ltb (a .args .p) (length (used (a .args .table .now) (a .args .count))) (omega arith), used-at (a .args .table .now) (a .args .count) (a .pre) (a .args .p) (omega arith)) (c .holds .ensures)
 
 returns-2 : tie.Need-returns-2
-returns-2 c e = absurd (true≢false (sym e))
+returns-2 c =
+    let a = c .before .before in
+    let n = used-length (a .args .table .now) (a .args .count) (a .pre) in
+    rw (le-ltb (a .args .p) (length (used (a .args .table .now) (a .args .count))) (omega arith)) refl
 
 pub hit-spec : {M : Type 1} → statement M
 hit-spec =

@@ -1,22 +1,23 @@
--- `table::ordered::narrow` meets its contract. The loop's invariant: the place is not before p and at most `left` records on; each turn leaves at most
--- half of them. Assumes nothing.
+-- `table::ordered::narrow` meets its contract. The loop's invariant: the place, where it is bracketed, is not before p and at most `left` records on; each turn
+-- leaves at most half of them. Assumes nothing.
 use native.Mathlib.Omega.{arith}
 use Prim.Native.Nat.{ℕ, _+_, _-_, _/_, _≤_}
 use mathlib.Core.Path.{refl}
-use Rattle.table.specs.Order.{used, Bracket}
+use borrow.Author.Needs.{needs}
+use Rattle.table.specs.Order.{Narrowed}
 use Rattle.table.proofs.Flat.{used-length}
-use Rattle.table.proofs.Search.{bracket-half, bracket-met, words-bit, words-bit-times, words-low}
+use Rattle.table.proofs.Search.{bracket-half, bracket-met, words-bit, words-bit-times}
 use Rattle.table.proofs.ordered.narrow.Statement.{statement}
 use Rattle.table.proofs.ordered.narrow.Tie as tie
 
 abbrev Inv-loop : tie.InvT-loop
-Inv-loop table count lo n level r p₀ left₀ p left = Bracket (used table count) level (r .0) p (p + left) × (p + left ≤ count)
+Inv-loop table lo n level r p₀ left₀ p left = (p + left ≤ lo + n) × ((count : ℕ) → Narrowed table count level (r .0) lo (lo + n) → Narrowed table count level (r .0) p (p + left))
 
 abbrev μ-loop : tie.MeasureT-loop
-μ-loop table count lo n level r p₀ left₀ p left = left
+μ-loop table lo n level r p₀ left₀ p left = left
 
 loop-holds : tie.Need-loop-holds Inv-loop μ-loop
-loop-holds c = let s = c .before in (s .pre .1, omega (arith, s .pre .1 .within, used-length (s .args .table .now) (s .args .count) (s .pre .0 .0)))
+loop-holds c = (search needs, λ count w. w)
 
 sub-half : tie.Need-sub-half Inv-loop μ-loop
 sub-half c = omega arith
@@ -46,10 +47,7 @@ shared-slice-read-below-bit-2 : tie.Need-shared-slice-read-below-bit-2 Inv-loop 
 shared-slice-read-below-bit-2 c = omega arith
 
 below-bit-requires : tie.Need-below-bit-requires Inv-loop μ-loop
-below-bit-requires c κs =
-    let s = c .before .before .before .before .before in
-    let l = c .before .before .before .loop in
-    (words-low (s .args .table .now) (s .args .count) (s .pre .0 .0) (s .pre .0 .2) _ (omega arith), s .pre .0 .3)
+below-bit-requires c κs = search needs
 
 mul-p : tie.Need-mul-p Inv-loop μ-loop
 mul-p c =
@@ -77,13 +75,21 @@ loop-again : tie.Need-loop-again Inv-loop μ-loop
 loop-again c =
     let s = c .before .before .before .before .before .before in
     let l = c .before .before .before .before .loop in
+    let t = s .args .table .now in
     let half : ℕ = l .left - l .left / 2 in
-    let bit = words-bit (s .args .table .now) (s .args .count) (s .pre .0 .0) (l .p + half - 1) (omega arith) (s .args .level) (s .args .r .0) _ (c .below-bit .ensures) in
-    let next = bracket-half _ (s .pre .0 .1) _ _ (l .p) (l .left) half _ (omega arith) refl (l .inv .0) bit in
-    (next, omega (arith, next .within, used-length (s .args .table .now) (s .args .count) (s .pre .0 .0)))
+    let most = words-bit-times t (l .p + half - 1) (s .args .level) (s .args .r .0) half _ (c .below-bit .ensures) in (
+      omega arith,
+      λ count w.
+          let v = l .inv .1 count w in
+          let n = used-length t count (v .room) in
+          let bit = words-bit t count (v .room) (v .low) (l .p + half - 1) (omega (arith, v .bracket .within)) (s .args .level) (s .args .r .0) _ (v .level-low) (c .below-bit .ensures) in
+          record { room = v .room; sorted = v .sorted; low = v .low; level-low = v .level-low; bracket = bracket-half _ (v .sorted) _ _ (l .p) (l .left) half _ (omega arith) refl (v .bracket) bit },
+    )
 
 returns : tie.Need-returns Inv-loop μ-loop
-returns c = bracket-met _ _ _ _ _ (c .before .loop .inv .0) (omega arith)
+returns c =
+    let l = c .before .loop in
+    (omega arith, λ count w. bracket-met _ _ _ _ _ (l .inv .1 count w .bracket) (omega arith))
 
 pub narrow-spec : {M : Type 1} → statement M
 narrow-spec =

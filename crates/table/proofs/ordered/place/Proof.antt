@@ -13,16 +13,22 @@ low-requires : tie.Need-low-requires
 low-requires c κs = search needs
 
 narrow-requires : tie.Need-narrow-requires
-narrow-requires c κs =
-    let s = c .before .before .before in
-    let f = c .before .low .ensures (c .if1 .taken) in
+narrow-requires c κs = search needs
+
+returns : tie.Need-returns
+returns c =
+    let s = c .before .before .before .before in
+    let f = c .before .before .low .ensures (c .before .if1 .taken) in
     let n = s .args .count in
     let z : 0 + n ≡ n = omega arith in
     let xs = used (s .args .table .now) n in
-    ((s .pre .0, s .pre .1, f .0, f .1), subst (Bracket xs (s .args .level) (s .args .r .0) 0) (sym z) (bracket-start xs (s .args .level) (s .args .r .0) n (sym (used-length (s .args .table .now) n (s .pre .0)))))
-
-returns : tie.Need-returns
-returns c = search needs
+    c .narrow .ensures .1 n (record {
+      room = s .pre .0;
+      sorted = s .pre .1;
+      low = f .0;
+      level-low = f .1;
+      bracket = subst (Bracket xs (s .args .level) (s .args .r .0) 0) (sym z) (bracket-start xs (s .args .level) (s .args .r .0) n (sym (used-length (s .args .table .now) n (s .pre .0))));
+    })
 
 place-any-requires : tie.Need-place-any-requires
 place-any-requires c κs = search needs
