@@ -14,7 +14,7 @@ use lib.Dec.{leb, ltb}
 use borrow.Author.Tests.{ne-eqb, leb-true, ltb-true, ltb-false, lt-ltb, le-ltb}
 use Rattle.word.specs.Record.{Record, noRecord}
 use Rattle.table.specs.declared.Found.the-variants.{At, Nothing}
-use Rattle.table.specs.Find.{fieldsHold, holds, findIn}
+use Rattle.table.specs.Find.{holds, findIn}
 use Rattle.table.specs.Order.{used, key, Before, Sorted, upperKey, Bracket, lastBelow, Low, hits, bitOf, Placed}
 use Rattle.table.proofs.Flat.{used-length, used-at}
 use Rattle.table.proofs.Order.{sorted-at, proper-at, Standing}
@@ -176,10 +176,6 @@ module _ (xs : List Record) (s : Sorted xs) (wanted r p : ℕ) (pl : Placed xs w
 module _ (t : List ℕ) (count : ℕ) (room : count * 4 ≤ length t) (m : ℕ) (h : m < count) (level r : ℕ) (b v : Bool) (value : b ≡ v) where
   pub words-below : b ≡ ltb (key (getD t (m * 4) 0) (getD t (m * 4 + 2) 0)) (key level r) → ltb (upperKey (used t count) m) (key level r) ≡ v
   words-below e = rw (used-at t count room m h) (sym e ∙ value)
-
-  pub words-hold : b ≡ fieldsHold (getD t (m * 4) 0) (getD t (m * 4 + 1) 0) (getD t (m * 4 + 2) 0) level r
-      → holds (getD (used t count) m noRecord) level r ≡ v
-  words-hold e = rw (used-at t count room m h) (sym e ∙ value)
 
 words-low : (t : List ℕ) (count : ℕ) → count * 4 ≤ length t → Low (used t count) → (m : ℕ) → m < count → getD t (m * 4) 0 < 2147483648
 words-low t count room low m h = rw (used-at t count room m h) at (low m (omega (arith, used-length t count room)))
