@@ -35,7 +35,7 @@ module _ (cs ds rs : List ℕ) (L : Lent cs ds rs) where
   none : Store (levelsOf cs ds) (good cs ds) []
   none = record { right = λ x m. absurd m; closed = λ i k i′ q h f. absurd (h .1) }
 
-  pub start-good : (t : List ℕ) (w : ℕ) → Good cs ds rs t 0 0 w
+  pub start-good : (t : List ℕ) (w : ℕ) → Good cs ds t 0 0 w
   unfolding Sorted
   start-good t w =
       record {
@@ -44,7 +44,7 @@ module _ (cs ds rs : List ℕ) (L : Lent cs ds rs) where
       }
 
   -- the node of the bound and all below it, with the runs merged, are the diagram
-  pub root-done : (a : ℕ) (t t′ t″ : List ℕ) (w m n : ℕ) (e : Ends) → a < getD rs 0 0 → NodeDone cs ds rs 0 a t 0 w t′ m n e → Merged t′ m n t″ → Whole (levelsOf cs ds) a t t″ n
+  pub root-done : (a : ℕ) (t t′ t″ : List ℕ) (w m n : ℕ) (e : Ends) → a < getD rs 0 0 → NodeDone cs ds 0 a t 0 w t′ m n e → Merged t′ m n t″ → Whole (levelsOf cs ds) a t t″ n
   root-done a t t′ t″ w m n e u d M =
       let two = d .two in
       let room : n * 4 ≤ length t″ = omega (arith, two .runs .room, M .long) in

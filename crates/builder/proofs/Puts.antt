@@ -8,9 +8,9 @@ use native.Mathlib.Omega.{arith}
 use lib.Dec.{ltb}
 use lib.ListN.{length, drop}
 use Rattle.word.specs.Record.{Record}
-use Rattle.table.specs.Order.{used, key, Before, Among, Sorted, Placed, insertAt, upperKey, Bracket}
+use Rattle.table.specs.Order.{used, key, Before, Among, Sorted, Placed, insertAt, upperKey}
 use Rattle.table.proofs.Order.{insert-new, insert-old, insert-cases}
-use Rattle.table.proofs.Search.{bracket-start, bracket-up, bracket-down, bracket-met}
+use Rattle.table.proofs.Search.{Bracket, bracket-start, bracket-up, bracket-down, bracket-met}
 use Rattle.runs.specs.Runs.{run, Settled, PutIn}
 use Rattle.runs.proofs.Members.{among-left, among-right, among-cases, all-in}
 use Rattle.runs.proofs.Views.{both-runs, view-used, used-view, settled-view}

@@ -108,8 +108,8 @@ module _ (cs ds rs : List ℕ) where
 
   -- ---- A found node
 
-  pub found-ok : (t : List ℕ) (m count w i r k : ℕ) → Good cs ds rs t m count w → findIn (used t count) (i + 1) r ≡ At (record { 0 = k })
-      → (k * 4 + 3 < length t) × ((e : Ends) → e ≡ ends (getD t (k * 4 + 1) 0) (getD t (k * 4 + 2) 0) → NodeDone cs ds rs i r t count w t m count e)
+  pub found-ok : (t : List ℕ) (m count w i r k : ℕ) → Good cs ds t m count w → findIn (used t count) (i + 1) r ≡ At (record { 0 = k })
+      → (k * 4 + 3 < length t) × ((e : Ends) → e ≡ ends (getD t (k * 4 + 1) 0) (getD t (k * 4 + 2) 0) → NodeDone cs ds i r t count w t m count e)
   found-ok t m count w i r k G f =
       let room = G .two .runs .room in
       let h = find-says (used t count) (i + 1) r k f in
@@ -132,7 +132,7 @@ module _ (cs ds rs : List ℕ) where
 
   -- ---- A row
 
-  pub row-end-ok : (i r j : ℕ) (e : Ends) (t : List ℕ) (m count w : ℕ) → Ready cs ds rs i → Good cs ds rs t m count w → getD ds i 0 < j → RowDone cs ds rs i r j e t count w t m count e
+  pub row-end-ok : (i r j : ℕ) (e : Ends) (t : List ℕ) (m count w : ℕ) → Ready cs ds rs i → Good cs ds t m count w → getD ds i 0 < j → RowDone cs ds i r j e t count w t m count e
   row-end-ok i r j e t m count w rd G h =
       let k : levelAt ls i .dom < j = omega (arith, dom-at cs ds rs (rd .lent) i (rd .level)) in
       record {
@@ -172,7 +172,7 @@ module _ (cs ds rs : List ℕ) where
         go (On c m) n k = absurd (n c m refl)
 
     pub row-skip-ok : (e : Ends) (b : Branch) (t : List ℕ) (count w : ℕ) (t″ : List ℕ) (x : Built) → b ≡ branchOf (getD cs i 0) (getD rs (i + 1) 0) r j
-        → ((c : Remainder) (m : ℕ) → b ≡ On c m → ⊥) → (y : Ends) → y ≡ cutOf e b → RowOk cs ds rs i r (j + 1) y t count w t″ x → RowOk cs ds rs i r j e t count w t″ x
+        → ((c : Remainder) (m : ℕ) → b ≡ On c m → ⊥) → (y : Ends) → y ≡ cutOf e b → RowOk cs ds i r (j + 1) y t count w t″ x → RowOk cs ds i r j e t count w t″ x
     row-skip-ok e b t count w t″ (Done m n z) is none y cut ok =
         let s = skip-cut e b is none in
         record {
@@ -210,14 +210,14 @@ module _ (cs ds rs : List ℕ) where
           (omega (arith, b .0, b .1, b .2, k .by, rest-is), omega (arith, b .2, k .by, rest-is))
 
       -- no room for a child
-      pub row-full-ok : (t : List ℕ) (count w : ℕ) → NodeOk cs ds rs (i + 1) (c .0) t count w t Full → NeedsMore ls (good cs ds) (length t / 4) i r (used t count)
+      pub row-full-ok : (t : List ℕ) (count w : ℕ) → NodeOk cs ds (i + 1) (c .0) t count w t Full → NeedsMore ls (good cs ds) (length t / 4) i r (used t count)
       row-full-ok t count w ok =
           let o : i + 1 ≡ suc i = omega arith in
           child-needs ls (good cs ds) (length t / 4) i r j (used t count) (used t count) (level-in i rd) dom-in taken
           (subst₂ (λ (n x : ℕ). NeedsMore ls (good cs ds) (length t / 4) n x (used t count)) o left-is ok)
 
-      pub row-node-ok : (e s : Ends) (t : List ℕ) (count w : ℕ) (t′ : List ℕ) (m′ n : ℕ) (t″ : List ℕ) (x : Built) → NodeDone cs ds rs (i + 1) (c .0) t count w t′ m′ n s
-          → (y : Ends) → y ≡ overlapOf e s m → RowOk cs ds rs i r (j + 1) y t′ n w t″ x → RowOk cs ds rs i r j e t count w t″ x
+      pub row-node-ok : (e s : Ends) (t : List ℕ) (count w : ℕ) (t′ : List ℕ) (m′ n : ℕ) (t″ : List ℕ) (x : Built) → NodeDone cs ds (i + 1) (c .0) t count w t′ m′ n s
+          → (y : Ends) → y ≡ overlapOf e s m → RowOk cs ds i r (j + 1) y t′ n w t″ x → RowOk cs ds i r j e t count w t″ x
       row-node-ok e s t count w t′ m′ n t″ (Done m″ n′ z) d y is ok =
           let o : i + 1 ≡ suc i = omega arith in
           let N : Noded ls (good cs ds) (suc i) (r - levelAt ls i .off j) (used t count) (used t′ n) = subst₂ (λ (k v : ℕ). Noded ls (good cs ds) k v (used t count) (used t′ n)) o left-is (d .noded) in
@@ -241,16 +241,16 @@ module _ (cs ds rs : List ℕ) where
 
   -- before child j: what the row from there on gives is what the whole row gives
   pub record Sofar (i r : ℕ) (t₀ : List ℕ) (count w j : ℕ) (e : Ends) (t : List ℕ) (m n : ℕ) : Type 0 where
-    pub good′ : Good cs ds rs t m n w
+    pub good′ : Good cs ds t m n w
     pub long : length t ≡ length t₀
     pub child : j ≤ getD ds i 0 + 1
-    pub goes : (t″ : List ℕ) (x : Built) → RowOk cs ds rs i r j e t n w t″ x → RowOk cs ds rs i r 0 (ends 0 (getD rs i 0 - 1)) t₀ count w t″ x
+    pub goes : (t″ : List ℕ) (x : Built) → RowOk cs ds i r j e t n w t″ x → RowOk cs ds i r 0 (ends 0 (getD rs i 0 - 1)) t₀ count w t″ x
 
-  pub sofar-start : (i r : ℕ) (t : List ℕ) (m count w : ℕ) → Good cs ds rs t m count w → Sofar i r t count w 0 (ends 0 (getD rs i 0 - 1)) t m count
+  pub sofar-start : (i r : ℕ) (t : List ℕ) (m count w : ℕ) → Good cs ds t m count w → Sofar i r t count w 0 (ends 0 (getD rs i 0 - 1)) t m count
   sofar-start i r t m count w G = record { good′ = G; long = refl; child = omega arith; goes = λ t″ x ok. ok }
 
   module _ (i r : ℕ) (t₀ : List ℕ) (count w j : ℕ) (e : Ends) (t : List ℕ) (m n : ℕ) (rd : Ready cs ds rs i) (S : Sofar i r t₀ count w j e t m n) where
-    pub sofar-end : getD ds i 0 < j → RowOk cs ds rs i r 0 (ends 0 (getD rs i 0 - 1)) t₀ count w t (Done m n e)
+    pub sofar-end : getD ds i 0 < j → RowOk cs ds i r 0 (ends 0 (getD rs i 0 - 1)) t₀ count w t (Done m n e)
     sofar-end h = S .goes t (Done m n e) (row-end-ok i r j e t m n w rd (S .good′) h)
 
     module _ (h : j ≤ getD ds i 0) where
@@ -260,10 +260,10 @@ module _ (cs ds rs : List ℕ) where
           record { good′ = S .good′; long = S .long; child = omega arith; goes = λ t″ x ok. S .goes t″ x (row-skip-ok i r j rd h e b t n w t″ x is none y cut ok) }
 
       module _ (c : Remainder) (o : ℕ) (k : OnCase (getD cs i 0) (getD rs (i + 1) 0) r j c o) where
-        pub sofar-full : (t″ : List ℕ) → NodeOk cs ds rs (i + 1) (c .0) t n w t Full → RowOk cs ds rs i r 0 (ends 0 (getD rs i 0 - 1)) t₀ count w t″ Full
+        pub sofar-full : (t″ : List ℕ) → NodeOk cs ds (i + 1) (c .0) t n w t Full → RowOk cs ds i r 0 (ends 0 (getD rs i 0 - 1)) t₀ count w t″ Full
         sofar-full t″ ok = S .goes t″ Full (row-full-ok i r j rd h c o k t n w ok)
 
-        pub sofar-node : (t′ : List ℕ) (m′ n′ : ℕ) (s : Ends) → NodeDone cs ds rs (i + 1) (c .0) t n w t′ m′ n′ s → (y : Ends) → y ≡ overlapOf e s o → Sofar i r t₀ count w (j + 1) y t′ m′ n′
+        pub sofar-node : (t′ : List ℕ) (m′ n′ : ℕ) (s : Ends) → NodeDone cs ds (i + 1) (c .0) t n w t′ m′ n′ s → (y : Ends) → y ≡ overlapOf e s o → Sofar i r t₀ count w (j + 1) y t′ m′ n′
         sofar-node t′ m′ n′ s d y is =
             record {
               good′ = record { two = d .two; store = d .noded .store };
@@ -274,8 +274,8 @@ module _ (cs ds rs : List ℕ) where
 
   -- ---- A new node
 
-  pub node-put-ok : (i r : ℕ) (t : List ℕ) (m count w : ℕ) (t′ : List ℕ) (m′ n : ℕ) (e : Ends) (t″ : List ℕ) (b : Built) → Ready cs ds rs i → Good cs ds rs t m count w → r < getD rs i 0
-      → findIn (used t count) (i + 1) r ≡ Nothing → RowDone cs ds rs i r 0 (ends 0 (getD rs i 0 - 1)) t count w t′ m′ n e → PutOk t′ m′ n w (i + 1) r e t″ b → NodeOk cs ds rs i r t count w t″ b
+  pub node-put-ok : (i r : ℕ) (t : List ℕ) (m count w : ℕ) (t′ : List ℕ) (m′ n : ℕ) (e : Ends) (t″ : List ℕ) (b : Built) → Ready cs ds rs i → Good cs ds t m count w → r < getD rs i 0
+      → findIn (used t count) (i + 1) r ≡ Nothing → RowDone cs ds i r 0 (ends 0 (getD rs i 0 - 1)) t count w t′ m′ n e → PutOk t′ m′ n w (i + 1) r e t″ b → NodeOk cs ds i r t count w t″ b
   node-put-ok i r t m count w t′ m′ n e t″ b rd G u none d put = by b put
     where
       top : getD rs i 0 ≡ R (drop i ls)
@@ -288,7 +288,7 @@ module _ (cs ds rs : List ℕ) where
       tiny = small (rd .lent) i
 
       lab-is : labelOf e ≡ label (drop i ls) r
-      lab-is = row-label ls (good cs ds) i r (level-in i rd) undecided e (subst (λ (x : ℕ). CutBy cs ds rs i r 0 (ends 0 (x - 1)) e) top (d .cut))
+      lab-is = row-label ls (good cs ds) i r (level-in i rd) undecided e (subst (λ (x : ℕ). CutBy cs ds i r 0 (ends 0 (x - 1)) e) top (d .cut))
 
       one : i + 1 ≡ suc i
       one = omega arith
@@ -299,7 +299,7 @@ module _ (cs ds rs : List ℕ) where
       free-now : Free ls (good cs ds) i r undecided tiny (used t′ n)
       free-now = free-kept ls (good cs ds) i r undecided tiny 0 (used t count) (used t′ n) (G .store) free (d .rowed)
 
-      by : (b : Built) → PutOk t′ m′ n w (i + 1) r e t″ b → NodeOk cs ds rs i r t count w t″ b
+      by : (b : Built) → PutOk t′ m′ n w (i + 1) r e t″ b → NodeOk cs ds i r t count w t″ b
       by (Done k n″ e″) put =
           record {
             lab = ap labelOf (put .same) ∙ lab-is;

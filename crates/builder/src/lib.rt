@@ -52,6 +52,17 @@ fn smaller(a: u32, b: u32) -> u32
     if a < b { a } else { b }
 }
 
+// The ends of all numbers below `top`.
+fn all_below(top: u32) -> Ends
+    requires { ⌜ 0 < top ⌝ }
+    ensures { λ x. ⌜ x ≡ ends′ 0 (top - 1) ⌝ }
+{
+    Ends {
+        lower: 0,
+        upper: top - 1,
+    }
+}
+
 // Child j of the remainder at level i.
 fn child<'a>(coefs: &'a [u32], rests: &'a [u32], i: usize, r: Remainder, j: u32) -> Branch
     requires { ⌜ (i < length (now coefs)) × (i + 1 < length (now rests)) × (getD (now coefs) i 0 * j + getD (now rests) (i + 1) 0 < 4294967296) ⌝ }
@@ -109,12 +120,13 @@ fn label_at(table: &[u32], k: NodeNumber) -> Ends
     }
 }
 
-// Puts a record for the label into the table's second run, which is merged into the first before it grows too long.
+// Puts a record for the label into the table's second run, where its place is looked for at `near` first. Before the run grows too long it is merged into the first.
 fn put(
     table: &mut [u32],
     work: &mut [u32],
     main: usize,
     count: usize,
+    near: usize,
     level: u32,
     r: Remainder,
     e: Ends,
@@ -126,7 +138,7 @@ fn put(
         return Built::Full;
     }
     let k = runs::settle(table, work, main, count);
-    runs::put(table, k, count, level, r, e.lower, e.upper);
+    runs::put(table, k, count, near, level, r, e.lower, e.upper);
     Built::Done(k, count + 1, e)
 }
 
@@ -143,18 +155,20 @@ fn find_node<'a>(
     r: Remainder,
 ) -> Built
     requires { ⌜ Ready (now coefs) (now ends) (now rests) i ⌝ }
-    requires { ⌜ Good (now coefs) (now ends) (now rests) (now table) main count (length (now work)) × (4 ≤ length (now work)) ⌝ }
+    requires { ⌜ Good (now coefs) (now ends) (now table) main count (length (now work)) × (4 ≤ length (now work)) ⌝ }
     requires { ⌜ r .0 < getD (now rests) i 0 ⌝ }
-    ensures { λ b. ⌜ NodeOk (now (coefs .entry)) (now (ends .entry)) (now (rests .entry)) i (r .0) (now (table .entry)) count (length (now (work .entry))) (now (table .exit)) b ⌝ }
+    ensures { λ b. ⌜ NodeOk (now (coefs .entry)) (now (ends .entry)) i (r .0) (now (table .entry)) count (length (now (work .entry))) (now (table .exit)) b ⌝ }
 {
     let level = i as u32 + 1;
-    let Found::At(k) = runs::find(table, work, main, count, level, r) else {
-        return build_node(coefs, ends, rests, table, work, main, count, i, r);
+    let mut near = 0;
+    let Found::At(k) = runs::find(table, work, main, count, &mut near, level, r) else {
+        return build_node(coefs, ends, rests, table, work, main, count, near, i, r);
     };
     Built::Done(main, count, label_at(table, k))
 }
 
-// The node of an undecided remainder at level i that no record holds, built from its row.
+// The node of an undecided remainder at level i that no record holds, built from its row. The row's own nodes stand behind it, so its place is still `near`, where
+// it was looked for, unless the runs were merged in between.
 fn build_node<'a>(
     coefs: &'a [u32],
     ends: &'a [u32],
@@ -163,19 +177,20 @@ fn build_node<'a>(
     work: &mut [u32],
     main: usize,
     count: usize,
+    near: usize,
     i: usize,
     r: Remainder,
 ) -> Built
     requires { ⌜ Ready (now coefs) (now ends) (now rests) i ⌝ }
-    requires { ⌜ Good (now coefs) (now ends) (now rests) (now table) main count (length (now work)) × (4 ≤ length (now work)) ⌝ }
+    requires { ⌜ Good (now coefs) (now ends) (now table) main count (length (now work)) × (4 ≤ length (now work)) ⌝ }
     requires { ⌜ (r .0 < getD (now rests) i 0) × (findIn (used (now table) count) (i + 1) (r .0) ≡ Nothing) ⌝ }
-    ensures { λ b. ⌜ NodeOk (now (coefs .entry)) (now (ends .entry)) (now (rests .entry)) i (r .0) (now (table .entry)) count (length (now (work .entry))) (now (table .exit)) b ⌝ }
+    ensures { λ b. ⌜ NodeOk (now (coefs .entry)) (now (ends .entry)) i (r .0) (now (table .entry)) count (length (now (work .entry))) (now (table .exit)) b ⌝ }
 {
     let row = build_row(coefs, ends, rests, table, work, main, count, i, r);
     let Built::Done(m, n, e) = row else {
         return Built::Full;
     };
-    put(table, work, m, n, i as u32 + 1, r, e)
+    put(table, work, m, n, near, i as u32 + 1, r, e)
 }
 
 // The label of an undecided remainder at level i: the overlap of its children's labels, whose nodes are found or built.
@@ -191,17 +206,14 @@ fn build_row<'a>(
     r: Remainder,
 ) -> Built
     requires { ⌜ Ready (now coefs) (now ends) (now rests) i ⌝ }
-    requires { ⌜ Good (now coefs) (now ends) (now rests) (now table) main count (length (now work)) × (4 ≤ length (now work)) ⌝ }
+    requires { ⌜ Good (now coefs) (now ends) (now table) main count (length (now work)) × (4 ≤ length (now work)) ⌝ }
     requires { ⌜ r .0 < getD (now rests) i 0 ⌝ }
-    ensures { λ b. ⌜ RowOk (now (coefs .entry)) (now (ends .entry)) (now (rests .entry)) i (r .0) 0 (ends′ 0 (getD (now (rests .entry)) i 0 - 1)) (now (table .entry)) count (length (now (work .entry))) (now (table .exit)) b ⌝ }
+    ensures { λ b. ⌜ RowOk (now (coefs .entry)) (now (ends .entry)) i (r .0) 0 (ends′ 0 (getD (now (rests .entry)) i 0 - 1)) (now (table .entry)) count (length (now (work .entry))) (now (table .exit)) b ⌝ }
 {
     let end = ends[i];
     let mut m = main;
     let mut n = count;
-    let mut e = Ends {
-        lower: 0,
-        upper: rests[i] - 1,
-    };
+    let mut e = all_below(rests[i]);
     let mut j: u32 = 0;
     'children: while j <= end {
         let branch = child(coefs, rests, i, r, j);
@@ -239,7 +251,7 @@ pub fn build<'a>(
         return Root::True;
     }
     runs::prepare(work, rests);
-    let Built::Done(m, n, _) = build_node(coefs, ends, rests, table, work, 0, 0, 0, bound) else {
+    let Built::Done(m, n, _) = build_node(coefs, ends, rests, table, work, 0, 0, 0, 0, bound) else {
         return Root::Full;
     };
     runs::merge(table, work, m, n);

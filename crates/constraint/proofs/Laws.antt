@@ -20,7 +20,7 @@ use Rattle.diagram.specs.Constraint.{Term, Constraint, levels, Limited, AllLimi
 use Rattle.encoding.specs.Boolean.{orders}
 use Rattle.encoding.proofs.Demand.{orders-le}
 use Rattle.constraint.specs.Reading.{upTo, eachFrom, kindChecked, countChecked, termChecked, checked, termOf, stated}
-use Rattle.constraint.specs.Held.{boundWord, restsOf}
+use Rattle.constraint.specs.Held.{restsOf}
 
 -- A refusal does not pass.
 pub refused-fails : {A : Type 0} (x : Refusal) → Refused x ≡ Passed → A
@@ -74,12 +74,6 @@ checked-within (w ∷ ws) e =
       few = rw length-map (count .1);
       each = each-limited 1 ws (third .1);
     }
-
--- The bound of stated constraints has 30 bits.
-pub bound-fits : (ws : List ℕ) → boundWord (stated ws .bound) ≤ 1073741823
-unfolding stated
-bound-fits [] = omega arith
-bound-fits (w ∷ ws) = omega arith
 
 -- What each term adds at most, times the number of terms, is the most that they add.
 by-length : (total : List Level → ℕ) (most : ℕ) → total [] ≡ 0

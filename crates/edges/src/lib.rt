@@ -94,7 +94,7 @@ fn row(
 }
 
 // Writes the edge list, and into each of the first `count` records its place there. As the records are in order, so are the children of one value: the
-// value's cursor goes over the table once.
+// value's cursor only moves on.
 pub fn link<'a>(
     coefs: &'a [u32],
     ends: &'a [u32],

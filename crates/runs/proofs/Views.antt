@@ -174,12 +174,6 @@ module _ (t : List ℕ) (m count w : ℕ) (rs : Runs t m count w) where
   view-to z h = merge-to (used t m) (run t m count) m (count - m) (omega (arith, main-length)) (omega (arith, pending-length)) z
       (⊎-elim (λ a. inl (subst (Among z) (sym main-all) a)) (λ b. inr (subst (Among z) (sym pending-all) b)) h)
 
-  pub view-main : (z : Record) → Among z (used t m) → Among z (view t m count)
-  view-main z h = view-to z (inl h)
-
-  pub view-pending : (z : Record) → Among z (run t m count) → Among z (view t m count)
-  view-pending z h = view-to z (inr h)
-
   -- THE VIEW has the records that lie in the table.
   pub view-used : (z : Record) → Among z (used t count) → Among z (view t m count)
   view-used z h = view-to z (among-cases (used t m) (run t m count) z (subst (Among z) (both-runs t m count (rs .mid)) h))
@@ -187,10 +181,6 @@ module _ (t : List ℕ) (m count w : ℕ) (rs : Runs t m count w) where
   pub used-view : (z : Record) → Among z (view t m count) → Among z (used t count)
   used-view z h = subst (Among z) (sym (both-runs t m count (rs .mid)))
       (⊎-elim (among-left (used t m) (run t m count) z) (among-right (used t m) (run t m count) z) (view-from z h))
-
-pub view-none : (t : List ℕ) → view t 0 0 ≡ []
-unfolding merge
-view-none t = refl
 
 -- No record is in the second run just after merging.
 run-none : (t : List ℕ) (n : ℕ) → run t n n ≡ []

@@ -16,16 +16,20 @@ const MERGING: usize = LONGEST * RECORD;
 // The most levels that are counted; those behind are searched without a guess.
 const LEVELS: usize = 64;
 
+// The bits of a part's number.
+const BITS: u32 = 9;
+
 // The parts of a level's remainders.
-const PARTS: u32 = 512;
+const PARTS: u32 = 1 << BITS;
 
 // The words of a level: the number of records of the levels before it, the shift from a remainder to its part, and the counts at the ends of the parts.
 const LEVEL: usize = PARTS as usize + 3;
 
-// The shift that leaves at most nine bits of a number, as many as number the parts.
+// The shift by which a number up to this one becomes a part's.
 fn shift(most: u32) -> u32 {
     let zeros = u32::leading_zeros(most);
-    if zeros < 23 { 23 - zeros } else { 0 }
+    let rest = 32 - BITS;
+    if zeros < rest { rest - zeros } else { 0 }
 }
 
 // Sets the counts of a level whose words begin at a place to 0, and its shift by the greatest remainder.
@@ -132,29 +136,26 @@ pub fn count_run(table: &[u32], work: &mut [u32], main: usize, count: usize)
     }
 }
 
-// The place of the remainder among the records of a part, which are those from the one count up to the other behind the start of their level; 0 where these do not
-// lie in the run.
-fn search_part(
-    table: &[u32],
-    main: usize,
-    start: u32,
-    from: u32,
-    up: u32,
-    level: u32,
-    r: Remainder,
-) -> usize
+// Where the remainder may stand among the records of a part, which are those from the one count up to the other behind the start of their level; 0 where these do
+// not lie in the run. Many are halved until few are left.
+fn search_part(table: &[u32], main: usize, start: u32, from: u32, up: u32, r: Remainder) -> usize
     requires { ⌜ main * 4 ≤ length (now table) ⌝ }
     ensures { λ p. ⌜ p ≤ main ⌝ }
 {
     if up < from {
         return 0;
     }
-    let lo = start as usize + from as usize;
-    let n = (up - from) as usize;
-    if main < lo + n {
+    let mut p = start as usize + from as usize;
+    let mut left = (up - from) as usize;
+    if main < p + left {
         return 0;
     }
-    ordered::narrow(table, lo, n, level, r)
+    while ordered::FEW < left {
+        let half = left - (left >> 1);
+        p = ordered::pass(table, p, half, r);
+        left -= half;
+    }
+    ordered::pass_few(table, main, p, r)
 }
 
 // The number of the record of the first run that may hold the remainder.
@@ -172,5 +173,5 @@ pub fn guess(table: &[u32], work: &[u32], main: usize, level: u32, r: Remainder)
     let x = r.0;
     let part = (x >> (work[at + 1] % 32)) % PARTS;
     let k = at + 2 + part as usize;
-    search_part(table, main, work[at], work[k], work[k + 1], level, r)
+    search_part(table, main, work[at], work[k], work[k + 1], r)
 }

@@ -27,12 +27,14 @@ pub fn prepare(work: &mut [u32], rests: &[u32])
     index::prepare(work, rests);
 }
 
-// The finder's reply on the first `count` records: those of the first run, near where the lent words guess, then those of the second.
+// The finder's reply on the first `count` records: those of the first run, near where the lent words guess, then those of the second. Where no record holds the
+// remainder, its place in the second run is noted for `put`, as a guess.
 pub fn find(
     table: &[u32],
     work: &[u32],
     main: usize,
     count: usize,
+    near: &mut usize,
     level: u32,
     r: Remainder,
 ) -> Found
@@ -43,7 +45,7 @@ pub fn find(
     let Found::At(k) = ordered::find_near(table, main, g, level, r) else {
         let b = main * RECORD;
         let e = count * RECORD;
-        let Found::At(q) = ordered::find_sorted(&table[b..e], count - main, level, r) else {
+        let Found::At(q) = ordered::find_sorted(&table[b..e], count - main, near, level, r) else {
             return Found::Nothing;
         };
         let n = main + q.0;
@@ -65,9 +67,9 @@ pub fn merge(table: &mut [u32], work: &mut [u32], main: usize, count: usize)
 
 // How many records the second run may have: the longer the first run is, the more records a merge moves.
 fn limit(main: usize) -> usize
-    ensures { λ n. ⌜ n ≡ min (32 + main / 64) 512 ⌝ }
+    ensures { λ n. ⌜ n ≡ min (16 + main / 24) 512 ⌝ }
 {
-    let most = 32 + main / 64;
+    let most = 16 + main / 24;
     if most < LONGEST { most } else { LONGEST }
 }
 
@@ -87,11 +89,12 @@ pub fn settle(table: &mut [u32], work: &mut [u32], main: usize, count: usize) ->
     count
 }
 
-// Puts a record with the fourth word 0 into the second run, at the remainder's place.
+// Puts a record with the fourth word 0 into the second run, at the remainder's place, which is looked for at a guess first.
 pub fn put(
     table: &mut [u32],
     main: usize,
     count: usize,
+    near: usize,
     level: u32,
     r: Remainder,
     lower: u32,
@@ -102,6 +105,6 @@ pub fn put(
 {
     let b = main * RECORD;
     let n = count - main;
-    let p = ordered::place(&table[b..], n, level, r);
+    let p = ordered::place_near(&table[b..], n, near, level, r);
     ordered::insert(&mut table[b..], n, p, level, lower, upper);
 }

@@ -5,7 +5,7 @@ ghost use mathlib.Core.Path.{_≡_};
 ghost use Prim.Native.Nat.{_+_, _-_, _*_, _≤_};
 ghost use lib.ListN.{length, take, getD};
 ghost use Rattle.word.specs.Record.{records, noRecord};
-ghost use Rattle.table.specs.Order.{used, key};
+ghost use Rattle.table.specs.Order.{used};
 ghost use Rattle.runs.specs.Runs.{run, Merged};
 ghost use Rattle.runs.specs.Merging.{putRecord, lastAbove};
 

@@ -5,7 +5,7 @@ use mathlib.Core.Path.{_≡_, refl, sym, ap, _∙_, subst, subst₂}
 use mathlib.Core.Logic.{_⊎_, inl, inr, ⊎-elim}
 use mathlib.Core.List.{List}
 use mathlib.Core.Bool.{Bool, true, false, _&&_, true≢false}
-use Prim.Native.Nat.{ℕ, zero, suc, _+_, _-_, _*_, _/_, _%_, _≤_, _<_, zero-le}
+use Prim.Native.Nat.{ℕ, zero, suc, _+_, _-_, _*_, _/_, _≤_, _<_, zero-le}
 use native.Mathlib.Nat.{not-suc-le-zero, eq-or-lt-of-le, mul-le-mul-left}
 use native.Mathlib.Numerals.{add-one}
 use native.Mathlib.Omega.{arith}
@@ -15,10 +15,17 @@ use borrow.Author.Tests.{ne-eqb, leb-true, ltb-true, ltb-false, lt-ltb, le-ltb}
 use Rattle.word.specs.Record.{Record, noRecord}
 use Rattle.table.specs.declared.Found.the-variants.{At, Nothing}
 use Rattle.table.specs.Find.{holds, findIn}
-use Rattle.table.specs.Order.{used, key, Before, Sorted, upperKey, Bracket, lastBelow, Low, hits, bitOf, Placed}
+use Rattle.table.specs.Order.{used, key, Before, Sorted, upperKey, lastBelow, lowLevels, Low, hits, bitOf, Placed}
 use Rattle.table.proofs.Flat.{used-length, used-at}
 use Rattle.table.proofs.Order.{sorted-at, proper-at, Standing}
 use Rattle.table.proofs.Says.{fields-hold, NoneBefore, find-none, find-first}
+
+-- The place of x at the level is not before lo and not after hi.
+pub record Bracket (xs : List Record) (level x lo hi : ℕ) : Type 0 where
+  pub ends : lo ≤ hi
+  pub within : hi ≤ length xs
+  pub before : (k : ℕ) → k < lo → upperKey xs k < key level x
+  pub after : (k : ℕ) → hi ≤ k → k < length xs → key level x ≤ upperKey xs k
 
 -- At one level, keys compare as their second parts.
 pub key-same : (l m h x : ℕ) → l ≡ m → ltb h x ≡ ltb (key l h) (key m x)
@@ -70,10 +77,10 @@ module _ (xs : List Record) (s : Sorted xs) (level x lo hi m : ℕ) (b : Bracket
   }
 
 -- A bracket may be made wider at its end.
-pub bracket-wider : (xs : List Record) (level x lo hi top : ℕ) → Bracket xs level x lo hi → hi ≤ top → top ≤ length xs → Bracket xs level x lo top
+bracket-wider : (xs : List Record) (level x lo hi top : ℕ) → Bracket xs level x lo hi → hi ≤ top → top ≤ length xs → Bracket xs level x lo top
 bracket-wider xs level x lo hi top b h w = record { ends = omega (arith, b .ends); within = w; before = b .before; after = λ k l i. b .after k (omega arith) i }
 
--- A difference of keys tells which is below: it reaches half of what 64 bits hold.
+-- A difference tells which of two numbers is less: it reaches half of what 64 bits hold.
 pub bit-law : (a b : ℕ) → a < 9223372036854775808 → b < 9223372036854775808 → (b + 9223372036854775807 - a) / 9223372036854775808 ≡ bitOf (ltb a b)
 bit-law a b h k = go (ltb a b) refl
   where
@@ -81,14 +88,14 @@ bit-law a b h k = go (ltb a b) refl
     go true e = let l = ltb-true a b e in omega arith
     go false e = let l = ltb-false a b e in omega arith
 
-pub bit-most : (b x y : ℕ) → b ≡ bitOf (ltb x y) → b ≤ 1
+bit-most : (b x y : ℕ) → b ≡ bitOf (ltb x y) → b ≤ 1
 bit-most b x y e = go (ltb x y) e
   where
     go : (q : Bool) → b ≡ bitOf q → b ≤ 1
     go true f = omega arith
     go false f = omega arith
 
-bit-times : (h b x y : ℕ) → b ≡ bitOf (ltb x y) → h * b ≤ h
+pub bit-times : (h b x y : ℕ) → b ≡ bitOf (ltb x y) → h * b ≤ h
 bit-times h b x y e = omega (arith, mul-le-mul-left h (bit-most b x y e))
 
 -- A turn without a branch: half of what is left, rounded up, lies before the place, or at most the other half does.
@@ -177,22 +184,16 @@ module _ (t : List ℕ) (count : ℕ) (room : count * 4 ≤ length t) (m : ℕ) 
   pub words-below : b ≡ ltb (key (getD t (m * 4) 0) (getD t (m * 4 + 2) 0)) (key level r) → ltb (upperKey (used t count) m) (key level r) ≡ v
   words-below e = rw (used-at t count room m h) (sym e ∙ value)
 
-words-low : (t : List ℕ) (count : ℕ) → count * 4 ≤ length t → Low (used t count) → (m : ℕ) → m < count → getD t (m * 4) 0 < 2147483648
-words-low t count room low m h = rw (used-at t count room m h) at (low m (omega (arith, used-length t count room)))
+-- What the search compares, as a bit.
+module _ (t : List ℕ) (count : ℕ) (room : count * 4 ≤ length t) (m : ℕ) (h : m < count) where
+  pub words-low : Low (used t count) → getD t (m * 4) 0 < lowLevels
+  words-low low = rw (used-at t count room m h) at (low m (omega (arith, used-length t count room)))
 
--- What the search compares, as a bit; low levels are left as they are.
-abbrev pub wordsBit : List ℕ → ℕ → ℕ → ℕ → ℕ
-wordsBit t m level r = bitOf (ltb (key (getD t (m * 4) 0 % 2147483648) (getD t (m * 4 + 2) 0)) (key (level % 2147483648) r))
+  pub words-upper : Sorted (used t count) → getD t (m * 4 + 2) 0 < 4294967296
+  words-upper s = rw (used-at t count room m h) at (proper-at (used t count) s m (omega (arith, used-length t count room)) .1)
 
-pub words-bit : (t : List ℕ) (count : ℕ) → count * 4 ≤ length t → Low (used t count) → (m : ℕ) → m < count → (level r b : ℕ) → level < 2147483648 → b ≡ wordsBit t m level r
-    → b ≡ bitOf (ltb (upperKey (used t count) m) (key level r))
-words-bit t count room low m h level r b l e =
-    let own : getD t (m * 4) 0 % 2147483648 ≡ getD t (m * 4) 0 = omega (arith, words-low t count room low m h) in
-    let sought : level % 2147483648 ≡ level = omega arith in
-    rw (used-at t count room m h) (rw (own, sought) at e)
-
-pub words-bit-times : (t : List ℕ) (m level r h b : ℕ) → b ≡ wordsBit t m level r → h * b ≤ h
-words-bit-times t m level r h b e = bit-times h b (key (getD t (m * 4) 0 % 2147483648) (getD t (m * 4 + 2) 0)) (key (level % 2147483648) r) e
+  pub words-bit : (level r b : ℕ) → b ≡ bitOf (ltb (key (getD t (m * 4) 0) (getD t (m * 4 + 2) 0)) (key level r)) → b ≡ bitOf (ltb (upperKey (used t count) m) (key level r))
+  words-bit level r b e = rw (used-at t count room m h) e
 
 -- What the test of one record says of the finder's reply.
 pub hits-reply : (xs : List Record) → Sorted xs → (level r p : ℕ) → hits xs level r p ≡ true → At (record { 0 = p }) ≡ findIn xs level r

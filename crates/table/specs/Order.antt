@@ -50,27 +50,12 @@ pub record Placed (xs : List Record) (level x p : ℕ) : Type 0 where
   pub before : (k : ℕ) → k < p → upperKey xs k < key level x
   pub after : (k : ℕ) → p ≤ k → k < length xs → key level x ≤ upperKey xs k
 
--- The place of x at the level is not before lo and not after hi.
-pub record Bracket (xs : List Record) (level x lo hi : ℕ) : Type 0 where
-  pub ends : lo ≤ hi
-  pub within : hi ≤ length xs
-  pub before : (k : ℕ) → k < lo → upperKey xs k < key level x
-  pub after : (k : ℕ) → hi ≤ k → k < length xs → key level x ≤ upperKey xs k
-
 -- Levels are low below this number: then keys differ by less than half of what 64 bits hold.
 abbrev pub lowLevels : ℕ
 lowLevels = 2147483648
 
 abbrev pub Low : List Record → Type 0
 Low xs = (k : ℕ) → k < length xs → getD xs k noRecord .level < lowLevels
-
--- The first count records are in order and of low levels, as the level is, and the place of x lies between lo and hi.
-pub record Narrowed (t : List ℕ) (count level x lo hi : ℕ) : Type 0 where
-  pub room : count * 4 ≤ length t
-  pub sorted : Sorted (used t count)
-  pub low : Low (used t count)
-  pub level-low : level < lowLevels
-  pub bracket : Bracket (used t count) level x lo hi
 
 -- Record p is there, of the level, and its label holds r.
 abbrev pub hits : List Record → ℕ → ℕ → ℕ → Bool

@@ -7,14 +7,17 @@ use word::Remainder;
 ghost use mathlib.Core.Path.{_≡_};
 ghost use mathlib.Core.Bool.{true};
 ghost use mathlib.Core.List.{_++_};
-ghost use Prim.Native.Nat.{ℕ, _+_, _-_, _*_, _≤_, _<_};
+ghost use Prim.Native.Nat.{_+_, _-_, _*_, _≤_, _<_};
 ghost use lib.Dec.{ltb};
 ghost use lib.ListN.{length, take, drop};
 ghost use Rattle.table.specs.Find.{findIn};
-ghost use Rattle.table.specs.Order.{used, key, Sorted, Placed, lastBelow, lowLevels, Low, Narrowed, hits, bitOf, insertAt};
+ghost use Rattle.table.specs.Order.{used, key, Sorted, Placed, lastBelow, lowLevels, Low, hits, bitOf, insertAt};
 
 // Levels are low below this number.
 const LOW: u32 = 2147483648;
+
+// How many records are looked at from a guess on, before all are searched.
+pub const FEW: usize = 7;
 
 // A level and a number of its remainders as one number, so that one comparison decides.
 pub fn key_of(level: u32, x: u32) -> u64
@@ -37,27 +40,25 @@ fn below(level: u32, upper: u32, wanted: u32, r: Remainder) -> bool
     upper < x
 }
 
-// The same as a number, 1 or 0, by a difference in place of a branch: what a search compares cannot be foreseen.
-pub fn below_bit(level: u32, upper: u32, wanted: u32, r: Remainder) -> usize
-    requires { ⌜ (level < lowLevels) × (wanted < lowLevels) ⌝ }
-    ensures { λ b. ⌜ b ≡ bitOf (ltb (key level upper) (key wanted (r .0))) ⌝ }
+// Whether a is less than b, as a number, 1 or 0, by a difference in place of a branch: what a search compares cannot be foreseen.
+fn less_bit(a: u64, b: u64) -> usize
+    requires { ⌜ (a < 9223372036854775808) × (b < 9223372036854775808) ⌝ }
+    ensures { λ x. ⌜ x ≡ bitOf (ltb a b) ⌝ }
 {
-    let record = key_of(level, upper);
-    let sought = key_of(wanted, r.0);
-    ((sought + 9223372036854775807 - record) >> 63) as usize
+    ((b + 9223372036854775807 - a) >> 63) as usize
 }
 
-// The place of the remainder among records in order of low levels, where it is not before lo and at most n records on; among other records a number there.
-pub fn narrow(table: &[u32], lo: usize, n: usize, level: u32, r: Remainder) -> usize
-    requires { ⌜ (lo + n) * 4 ≤ length (now table) ⌝ }
-    ensures { λ p. ⌜ (p ≤ lo + n) × ((count : ℕ) → Narrowed (now (table .entry)) count level (r .0) lo (lo + n) → Placed (used (now (table .entry)) count) level (r .0) p) ⌝ }
+// The place by halves without branches, where the levels are low.
+fn place_low(table: &[u32], count: usize, level: u32, r: Remainder) -> usize
+    requires { ⌜ (count * 4 ≤ length (now table)) × Sorted (used (now table) count) × Low (used (now table) count) × (level < lowLevels) ⌝ }
+    ensures { λ p. ⌜ Placed (used (now (table .entry)) count) level (r .0) p ⌝ }
 {
-    let mut p = lo;
-    let mut left = n;
+    let mut p = 0;
+    let mut left = count;
     while 0 < left {
         let half = left - (left >> 1);
         let b = (p + half - 1) * RECORD;
-        p += half * below_bit(table[b] % LOW, table[b + 2], level % LOW, r);
+        p += half * less_bit(key_of(table[b], table[b + 2]), key_of(level, r.0));
         left -= half;
     }
     p
@@ -97,12 +98,12 @@ fn low(table: &[u32], count: usize, level: u32) -> bool
 }
 
 // How many of the first `count` records, which are in order, lie wholly before the remainder at the level.
-pub fn place(table: &[u32], count: usize, level: u32, r: Remainder) -> usize
+fn place(table: &[u32], count: usize, level: u32, r: Remainder) -> usize
     requires { ⌜ (count * 4 ≤ length (now table)) × Sorted (used (now table) count) ⌝ }
     ensures { λ p. ⌜ Placed (used (now (table .entry)) count) level (r .0) p ⌝ }
 {
     if low(table, count, level) {
-        return narrow(table, 0, count, level, r);
+        return place_low(table, count, level, r);
     }
     place_any(table, count, level, r)
 }
@@ -145,12 +146,20 @@ fn found_at(table: &[u32], count: usize, p: usize, level: u32, r: Remainder) -> 
     Found::Nothing
 }
 
-// The finder's reply on the first `count` records, which are in order.
-pub fn find_sorted(table: &[u32], count: usize, level: u32, r: Remainder) -> Found
+// The finder's reply on the first `count` records, which are in order; the cursor moves to the place of the remainder.
+pub fn find_sorted(
+    table: &[u32],
+    count: usize,
+    cursor: &mut usize,
+    level: u32,
+    r: Remainder,
+) -> Found
     requires { ⌜ (count * 4 ≤ length (now table)) × Sorted (used (now table) count) ⌝ }
     ensures { λ f. ⌜ f ≡ findIn (used (now (table .entry)) count) level (r .0) ⌝ }
 {
-    found_at(table, count, place(table, count, level, r), level, r)
+    let p = place(table, count, level, r);
+    *cursor = p;
+    found_at(table, count, p, level, r)
 }
 
 // Whether the place of the remainder among the first `count` records is n, as the records on both sides tell.
@@ -169,7 +178,7 @@ fn placed_at(table: &[u32], count: usize, n: usize, level: u32, r: Remainder) ->
 }
 
 // The place of the remainder, whatever the guess is: the guess itself, where the records on both sides tell that it is right.
-fn place_near(table: &[u32], count: usize, guess: usize, level: u32, r: Remainder) -> usize
+pub fn place_near(table: &[u32], count: usize, guess: usize, level: u32, r: Remainder) -> usize
     requires { ⌜ (count * 4 ≤ length (now table)) × Sorted (used (now table) count) ⌝ }
     ensures { λ p. ⌜ Placed (used (now (table .entry)) count) level (r .0) p ⌝ }
 {
@@ -179,12 +188,13 @@ fn place_near(table: &[u32], count: usize, guess: usize, level: u32, r: Remainde
     place(table, count, level, r)
 }
 
-// The finder's reply by way of the place.
-fn find_place(table: &[u32], count: usize, guess: usize, level: u32, r: Remainder) -> Found
+// The same, where the place is looked for at the cursor first.
+fn find_place(table: &[u32], count: usize, cursor: &mut usize, level: u32, r: Remainder) -> Found
     requires { ⌜ (count * 4 ≤ length (now table)) × Sorted (used (now table) count) ⌝ }
     ensures { λ f. ⌜ f ≡ findIn (used (now (table .entry)) count) level (r .0) ⌝ }
 {
-    let p = place_near(table, count, guess, level, r);
+    let p = place_near(table, count, *cursor, level, r);
+    *cursor = p;
     found_at(table, count, p, level, r)
 }
 
@@ -196,38 +206,78 @@ pub fn find_near(table: &[u32], count: usize, guess: usize, level: u32, r: Remai
     if hit(table, count, guess, level, r) {
         return Found::At(NodeNumber(guess));
     }
-    find_place(table, count, guess, level, r)
+    let mut cursor = guess;
+    find_place(table, count, &mut cursor, level, r)
 }
 
-// From a number on, over the records that lie wholly before the remainder at the level: where they end. Begun past the place, it ends where it began, so this
-// is a guess, and whoever uses it tests it.
+// Whether an upper end lies before the remainder, as 1 or 0.
+fn ends_before(upper: u32, r: Remainder) -> usize
+    ensures { λ b. ⌜ b ≡ bitOf (ltb upper (r .0)) ⌝ }
+{
+    let x = r.0;
+    less_bit(upper as u64, x as u64)
+}
+
+// The number past n records from p on, where the last of them ends before the remainder, and else p; without a branch. Levels are not looked at, so this is a
+// guess, and whoever uses it tests it.
+pub fn pass(table: &[u32], p: usize, n: usize, r: Remainder) -> usize
+    requires { ⌜ (0 < n) × ((p + n) * 4 ≤ length (now table)) ⌝ }
+    ensures { λ q. ⌜ q ≤ p + n ⌝ }
+{
+    p + n * ends_before(table[(p + n - 1) * RECORD + 2], r)
+}
+
+// The number past those of the next few records that end before the remainder, where they are of one level; where fewer are left, the number itself. This is a
+// guess as well.
+pub fn pass_few(table: &[u32], count: usize, from: usize, r: Remainder) -> usize
+    requires { ⌜ count * 4 ≤ length (now table) ⌝ }
+    ensures { λ p. ⌜ (from ≤ count → p ≤ count) ⌝ }
+{
+    if count <= from {
+        return from;
+    }
+    if count - from < FEW {
+        return from;
+    }
+    let four = pass(table, from, 4, r);
+    let six = pass(table, four, 2, r);
+    pass(table, six, 1, r)
+}
+
+// The number past those of the next few records that lie wholly before the remainder at the level. Past the place it is the number itself, so this too is a guess.
 fn walk(table: &[u32], count: usize, from: usize, level: u32, r: Remainder) -> usize
     requires { ⌜ count * 4 ≤ length (now table) ⌝ }
 {
     let sought = key_of(level, r.0);
     let mut p = from;
-    while p < count {
+    let mut left = FEW;
+    while 0 < left {
+        if count <= p {
+            return p;
+        }
         let b = p * RECORD;
         if sought <= key_of(table[b], table[b + 2]) {
             return p;
         }
         p += 1;
+        left -= 1;
     }
     p
 }
 
-// The same reply, whatever the cursor is: it is where a guess is looked for, and the guess is tested. It moves to the guess, so the search for a remainder that
-// lies a little further on is short.
+// The same reply, whatever the cursor is: it is where guesses are looked for, and they are tested. It moves to where the search ends, so that the next, for a
+// remainder that lies a little further on, is short.
 pub fn find_from(table: &[u32], count: usize, cursor: &mut usize, level: u32, r: Remainder) -> Found
     requires { ⌜ (count * 4 ≤ length (now table)) × Sorted (used (now table) count) ⌝ }
     ensures { λ f. ⌜ f ≡ findIn (used (now (table .entry)) count) level (r .0) ⌝ }
 {
-    let p = walk(table, count, *cursor, level, r);
-    *cursor = p;
+    let p = pass_few(table, count, *cursor, r);
     if hit(table, count, p, level, r) {
+        *cursor = p;
         return Found::At(NodeNumber(p));
     }
-    find_place(table, count, p, level, r)
+    *cursor = walk(table, count, p, level, r);
+    find_place(table, count, cursor, level, r)
 }
 
 // Moves the words from place b up to n, n not included, up by one record.

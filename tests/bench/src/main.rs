@@ -15,11 +15,13 @@ fn once(reps: u32, call: &mut dyn FnMut()) -> f64 {
     start.elapsed().as_secs_f64() / reps as f64
 }
 
-/// The least time of each of the three encoders, called in turn, at least three times each.
-fn least(c: &Constraint, lengths: [usize; 3]) -> (u64, [f64; 3]) {
+/// The nodes, the children that are nodes, and the least time of each of the three encoders, called in turn, at least three times each.
+fn least(c: &Constraint, lengths: [usize; 3]) -> (u64, usize, [f64; 3]) {
     let words = c.words();
     let [mut t, mut e, mut w] = lengths.map(|n| vec![0u32; n]);
-    let nodes = archive::encode(&words, &mut t, &mut e, &mut w).nodes;
+    let reply = archive::encode(&words, &mut t, &mut e, &mut w);
+    let nodes = reply.nodes;
+    let children = e[..reply.edges as usize].iter().filter(|&&edge| (edge as u64) < nodes).count();
     let reps = if nodes == 0 { 1 } else { (2_000 / nodes as u32).max(1) };
     let mut times = [f64::MAX; 3];
     let begin = Instant::now();
@@ -37,28 +39,33 @@ fn least(c: &Constraint, lengths: [usize; 3]) -> (u64, [f64; 3]) {
         }
         rounds += 1;
     }
-    (nodes, times)
+    (nodes, children, times)
 }
 
 /// Times one constraint and prints a line.
 fn line(name: &str, c: &Constraint, lengths: [usize; 3]) {
-    let (nodes, [ours, map, sum]) = least(c, lengths);
+    let (nodes, children, [ours, map, sum]) = least(c, lengths);
     let log = (nodes.max(2) as f64).log2();
-    let cost = if nodes > 0 { format!("{:10.1}", ours * 1e9 / nodes as f64 / log) } else { format!("{:>10}", "-") };
+    let cost = |n: usize| if n > 0 { format!("{:8.1}", ours * 1e9 / n as f64 / log) } else { format!("{:>8}", "-") };
     println!(
-        "{name:>14} {nodes:>7} {:>12.2} {:>12.2} {:>12.2} {:>8.2} {:>8.2} {cost}",
+        "{name:>14} {nodes:>7} {:>12.2} {:>12.2} {:>12.2} {:>8.2} {:>8.2} {} {}",
         ours * 1e6,
         map * 1e6,
         sum * 1e6,
         ours / map,
-        ours / sum
+        ours / sum,
+        cost(nodes as usize),
+        cost(children)
     );
 }
 
 fn main() {
     println!("Times in microseconds, the least of at least 3 calls. The lists are as long as the diagram needs and are not cleared before a call: they hold the result of the call before.");
-    println!("maps: the separate encoder with an ordered map a level; sums: the same with sets of sums. Both build on the heap and copy. ns: nanoseconds of ours a node, over log2 of the nodes.");
-    println!("{:>14} {:>7} {:>12} {:>12} {:>12} {:>8} {:>8} {:>10}", "diagram", "nodes", "ours", "maps", "sums", "/maps", "/sums", "ns");
+    println!("maps: the separate encoder with an ordered map a level; sums: the same with sets of sums. Both build on the heap and copy. a node, a child: nanoseconds of ours for each node, and for each child that is a node, over log2 of the nodes.");
+    println!(
+        "{:>14} {:>7} {:>12} {:>12} {:>12} {:>8} {:>8} {:>8} {:>8}",
+        "diagram", "nodes", "ours", "maps", "sums", "/maps", "/sums", "a node", "a child"
+    );
     for (count, c) in fixed::sizes() {
         let d = sums::build(&c, 65_536).unwrap();
         assert_eq!(d.nodes.len(), count);

@@ -27,6 +27,7 @@ use Rattle.builder.proofs.+build_node+build_row+find_node.Lts-build_row
 use Rattle.builder.proofs.find_node.Reads as find-node
 use Rattle.builder.proofs.find_node.Kinds as find-node-kinds
 use Rattle.builder.proofs.+build_node+build_row+find_node.Lts-find_node as find-node-lts
+use Rattle.builder.proofs.all_below.Reads as all-below-reads
 use Rattle.builder.proofs.child.Reads as child-reads
 use Rattle.builder.proofs.cut.Reads as cut-reads
 use Rattle.builder.proofs.label_at.Reads as label-at-reads
@@ -47,7 +48,7 @@ abbrev μ-find-node : Measures 3 find-node-kinds.ps ℕ
 μ-find-node κs a = (length (a .0 .now) - a .1 .1 .1 .1 .1 .1 .1 .0) * 3 + 2
 
 abbrev μ-build-node : Measures 3 build-node-kinds.ps ℕ
-μ-build-node κs a = (length (a .0 .now) - a .1 .1 .1 .1 .1 .1 .1 .0) * 3 + 1
+μ-build-node κs a = (length (a .0 .now) - a .1 .1 .1 .1 .1 .1 .1 .1 .0) * 3 + 1
 
 abbrev μ-build-row : Measures 3 build-row-kinds.ps ℕ
 μ-build-row κs a = (length (a .0 .now) - a .1 .1 .1 .1 .1 .1 .1 .0) * 3
@@ -78,7 +79,7 @@ abbrev node-callees : ℕ → build-node-lts.Claims
 node-callees t = (build-row-below t, build-row.Post, put-reads.Asked, put-reads.Learnt)
 
 abbrev row-callees : ℕ → build-row-lts.Claims
-row-callees t = (child-reads.Asked, child-reads.Learnt, cut-reads.Asked, cut-reads.Learnt, find-node-below t, find-node.Post, overlap-reads.Asked, overlap-reads.Learnt)
+row-callees t = (all-below-reads.Asked, all-below-reads.Learnt, child-reads.Asked, child-reads.Learnt, cut-reads.Asked, cut-reads.Learnt, find-node-below t, find-node.Post, overlap-reads.Asked, overlap-reads.Learnt)
 
 -- before each child: the row so far
 abbrev build-row-Inv-children : build-row-lts.InvT-children
@@ -97,7 +98,7 @@ find-node-add-level t c = omega arith
 
 find-node-find-requires : (t : ℕ) → find-node-lts.Need-find-requires (find-callees t) (find-node-at t) find-node.Post
 find-node-find-requires t c κs =
-    let T = c .before .before .before .before .before .before .before .pre .1 .1 .0 .0 .two .runs in
+    let T = c .before .before .before .before .before .before .before .before .pre .1 .1 .0 .0 .two .runs in
     (T .mid, T .room, T .main, T .pending)
 
 find-node-enum-known-k : (t : ℕ) → find-node-lts.Need-enum-known-k (find-callees t) (find-node-at t) find-node.Post
@@ -108,7 +109,7 @@ find-node-enum-told t c = search needs
 
 find-node-build-node-requires : (t : ℕ) → find-node-lts.Need-build-node-requires (find-callees t) (find-node-at t) find-node.Post
 find-node-build-node-requires t c κs =
-    let s = c .before .before .before .before .before .before .before .before .before .before .before .before in
+    let s = c .before .before .before .before .before .before .before .before .before .before .before .before .before in
     (omega (arith, s .pre .0), (s .pre .1 .0, (s .pre .1 .1 .0, (s .pre .1 .1 .1, sym (c .before .before .before .before .find .ensures) ∙ c .before .before .enum-told .given .1))))
 
 find-node-same-length : (t : ℕ) → find-node-lts.Need-same-length (find-callees t) (find-node-at t) find-node.Post
@@ -122,7 +123,7 @@ find-node-returns t c = c .before .before .before .before .build-node .ensures
 
 find-node-label-at-requires : (t : ℕ) → find-node-lts.Need-label-at-requires (find-callees t) (find-node-at t) find-node.Post
 find-node-label-at-requires t c κs =
-    let s = c .before .before .before .before .before .before .before .before .before .before .before .before in
+    let s = c .before .before .before .before .before .before .before .before .before .before .before .before .before in
     found-ok (s .args .coefs .now) (s .args .ends .now) (s .args .rests .now) (s .args .table .now) (s .args .main) (s .args .count) (length (s .args .work .now)) (s .args .i) (s .args .r .0) (c .before .before .k .given .0 .0 .0) (s .pre .1 .1 .0 .0)
     (sym (c .before .before .before .before .find .ensures) ∙ c .before .before .k .given .1) .0
 
@@ -134,7 +135,7 @@ find-node-same-length-4 t c = refl
 
 find-node-returns-2 : (t : ℕ) → find-node-lts.Need-returns-2 (find-callees t) (find-node-at t) find-node.Post
 find-node-returns-2 t c =
-    let s = c .before .before .before .before .before .before .before .before .before .before .before .before .before in
+    let s = c .before .before .before .before .before .before .before .before .before .before .before .before .before .before in
     found-ok (s .args .coefs .now) (s .args .ends .now) (s .args .rests .now) (s .args .table .now) (s .args .main) (s .args .count) (length (s .args .work .now)) (s .args .i) (s .args .r .0) (c .before .before .before .k .given .0 .0 .0) (s .pre .1 .1 .0 .0)
     (sym (c .before .before .before .before .before .find .ensures) ∙ c .before .before .before .k .given .1) .1 (c .label-at .result) (c .label-at .ensures)
 
@@ -190,25 +191,25 @@ build-row-mul-end t c = omega arith
 build-row-shared-slice-read-end : (t : ℕ) → build-row-lts.Need-shared-slice-read-end (row-callees t) (build-row-at t) build-row.Post build-row-Inv-children build-row-μ-children
 build-row-shared-slice-read-end t c = omega arith
 
-build-row-mul-t22 : (t : ℕ) → build-row-lts.Need-mul-t22 (row-callees t) (build-row-at t) build-row.Post build-row-Inv-children build-row-μ-children
-build-row-mul-t22 t c = omega arith
+build-row-mul-all-below : (t : ℕ) → build-row-lts.Need-mul-all-below (row-callees t) (build-row-at t) build-row.Post build-row-Inv-children build-row-μ-children
+build-row-mul-all-below t c = omega arith
 
-build-row-shared-slice-read-t24 : (t : ℕ) → build-row-lts.Need-shared-slice-read-t24 (row-callees t) (build-row-at t) build-row.Post build-row-Inv-children build-row-μ-children
-build-row-shared-slice-read-t24 t c =
+build-row-shared-slice-read-all-below : (t : ℕ) → build-row-lts.Need-shared-slice-read-all-below (row-callees t) (build-row-at t) build-row.Post build-row-Inv-children build-row-μ-children
+build-row-shared-slice-read-all-below t c =
     let s = c .before .before .before .before .before .before .before in
     omega (arith, s .pre .1 .0 .level, rests-count (s .args .coefs .now) (s .args .ends .now) (s .args .rests .now) (s .pre .1 .0 .lent))
 
-build-row-sub-t26 : (t : ℕ) → build-row-lts.Need-sub-t26 (row-callees t) (build-row-at t) build-row.Post build-row-Inv-children build-row-μ-children
-build-row-sub-t26 t c = omega arith
+build-row-all-below-requires : (t : ℕ) → build-row-lts.Need-all-below-requires (row-callees t) (build-row-at t) build-row.Post build-row-Inv-children build-row-μ-children
+build-row-all-below-requires t c κs = omega arith
 
 build-row-children-holds : (t : ℕ) → build-row-lts.Need-children-holds (row-callees t) (build-row-at t) build-row.Post build-row-Inv-children build-row-μ-children
 build-row-children-holds t c =
-    let s = c .before .before .before .before .before .before .before in
-    (sofar-start (s .args .coefs .now) (s .args .ends .now) (s .args .rests .now) (s .args .i) (s .args .r .0) (s .args .table .now) (s .args .main) (s .args .count) (length (s .args .work .now)) (s .pre .1 .1 .0 .0), refl, refl)
+    let s = c .before .before .before .before .before .before .before .before in
+    (rw (c .all-below .ensures) (sofar-start (s .args .coefs .now) (s .args .ends .now) (s .args .rests .now) (s .args .i) (s .args .r .0) (s .args .table .now) (s .args .main) (s .args .count) (length (s .args .work .now)) (s .pre .1 .1 .0 .0)), refl, refl)
 
 build-row-child-requires : (t : ℕ) → build-row-lts.Need-child-requires (row-callees t) (build-row-at t) build-row.Post build-row-Inv-children build-row-μ-children
 build-row-child-requires t c κs =
-    let s = c .before .before .before .before .before .before .before .before .before in
+    let s = c .before .before .before .before .before .before .before .before .before .before in
     let l = c .before .children in
     let rd = s .pre .1 .0 in
     let pr = product (s .args .coefs .now) (s .args .ends .now) (s .args .rests .now) (s .args .i) (l .j) rd (omega (arith, c .children-test .taken, l .inv .2)) in
@@ -216,7 +217,7 @@ build-row-child-requires t c κs =
 
 build-row-add-j : (t : ℕ) → build-row-lts.Need-add-j (row-callees t) (build-row-at t) build-row.Post build-row-Inv-children build-row-μ-children
 build-row-add-j t c =
-    let s = c .before .before .before .before .before .before .before .before .before .before in
+    let s = c .before .before .before .before .before .before .before .before .before .before .before in
     let l = c .before .before .children in
     omega (arith, c .before .children-test .taken, l .inv .2, end-small (s .args .coefs .now) (s .args .ends .now) (s .args .rests .now) (s .args .i) (s .pre .1 .0))
 
@@ -231,7 +232,7 @@ build-row-children-less t c = omega (arith, c .before .before .before .children-
 
 build-row-children-again : (t : ℕ) → build-row-lts.Need-children-again (row-callees t) (build-row-at t) build-row.Post build-row-Inv-children build-row-μ-children
 build-row-children-again t c =
-    let s = c .before .before .before .before .before .before .before .before .before .before .before .before in
+    let s = c .before .before .before .before .before .before .before .before .before .before .before .before .before in
     let l = c .before .before .before .before .children in
     let apart = not-on (c .before .before .child .result) (c .before .match .keys2) in (
       sofar-skip (s .args .coefs .now) (s .args .ends .now) (s .args .rests .now) (s .args .i) (s .args .r .0) (s .args .table .now) (s .args .count) (length (s .args .work .now)) (l .j) (l .e) (l .table) (l .m) (l .n) (s .pre .1 .0) (l .inv .0)
@@ -245,12 +246,12 @@ build-row-add-find-node t c = omega arith
 
 build-row-find-node-requires : (t : ℕ) → build-row-lts.Need-find-node-requires (row-callees t) (build-row-at t) build-row.Post build-row-Inv-children build-row-μ-children
 build-row-find-node-requires t c κs =
-    let s = c .before .before .before .before .before .before .before .before .before .before .before .before .before .before .before in
+    let s = c .before .before .before .before .before .before .before .before .before .before .before .before .before .before .before .before in
     let l = c .before .before .before .before .before .before .before .children in
     let rd = s .pre .1 .0 in
     let k = on-case (getD (s .args .coefs .now) (s .args .i) 0) (getD (s .args .rests .now) (s .args .i + 1) 0) (s .args .r .0) (l .j) (c .before .before .before .branch .given .0 .0) (c .before .before .before .branch .given .0 .1 .0) (sym (c .before .before .before .branch .given .1) ∙ c .before .before .before .before .before .child .ensures) in
     let same = l .inv .1 in
-    (omega (arith, s .pre .0, rd .level), (ready-next (s .args .coefs .now) (s .args .ends .now) (s .args .rests .now) (s .args .i) _ rd (k .below), ((subst (Good _ _ _ _ _ _) (sym same) (l .inv .0 .good′), omega (arith, same, s .pre .1 .1 .0 .1)), k .below)))
+    (omega (arith, s .pre .0, rd .level), (ready-next (s .args .coefs .now) (s .args .ends .now) (s .args .rests .now) (s .args .i) _ rd (k .below), ((subst (Good _ _ _ _ _) (sym same) (l .inv .0 .good′), omega (arith, same, s .pre .1 .1 .0 .1)), k .below)))
 
 build-row-enum-known-node : (t : ℕ) → build-row-lts.Need-enum-known-node (row-callees t) (build-row-at t) build-row.Post build-row-Inv-children build-row-μ-children
 build-row-enum-known-node t c = search needs
@@ -266,7 +267,7 @@ build-row-same-length-2 t c = c .before .before .before .before .before .before 
 
 build-row-returns : (t : ℕ) → build-row-lts.Need-returns (row-callees t) (build-row-at t) build-row.Post build-row-Inv-children build-row-μ-children
 build-row-returns t c =
-    let s = c .before .before .before .before .before .before .before .before .before .before .before .before .before .before .before .before .before .before .before .before .before .before in
+    let s = c .before .before .before .before .before .before .before .before .before .before .before .before .before .before .before .before .before .before .before .before .before .before .before in
     let l = c .before .before .before .before .before .before .before .before .before .before .before .before .before .before .children in
     let k = on-case (getD (s .args .coefs .now) (s .args .i) 0) (getD (s .args .rests .now) (s .args .i + 1) 0) (s .args .r .0) (l .j) (c .before .before .before .before .before .before .before .before .before .before .branch .given .0 .0) (c .before .before .before .before .before .before .before .before .before .before .branch .given .0 .1 .0) (sym (c .before .before .before .before .before .before .before .before .before .before .branch .given .1) ∙ c .before .before .before .before .before .before .before .before .before .before .before .before .child .ensures) in
     sofar-full (s .args .coefs .now) (s .args .ends .now) (s .args .rests .now) (s .args .i) (s .args .r .0) (s .args .table .now) (s .args .count) (length (s .args .work .now)) (l .j) (l .e) (l .table) (l .m) (l .n) (s .pre .1 .0) (l .inv .0)
@@ -274,7 +275,7 @@ build-row-returns t c =
 
 build-row-overlap-requires : (t : ℕ) → build-row-lts.Need-overlap-requires (row-callees t) (build-row-at t) build-row.Post build-row-Inv-children build-row-μ-children
 build-row-overlap-requires t c κs =
-    let s = c .before .before .before .before .before .before .before .before .before .before .before .before .before .before .before .before .before .before .before .before .before .before .before in
+    let s = c .before .before .before .before .before .before .before .before .before .before .before .before .before .before .before .before .before .before .before .before .before .before .before .before in
     let l = c .before .before .before .before .before .before .before .before .before .before .before .before .before .before .before .children in
     let k = on-case (getD (s .args .coefs .now) (s .args .i) 0) (getD (s .args .rests .now) (s .args .i + 1) 0) (s .args .r .0) (l .j) (c .before .before .before .before .before .before .before .before .before .before .before .branch .given .0 .0) (c .before .before .before .before .before .before .before .before .before .before .before .branch .given .0 .1 .0) (sym (c .before .before .before .before .before .before .before .before .before .before .before .branch .given .1) ∙ c .before .before .before .before .before .before .before .before .before .before .before .before .before .child .ensures) in
     let d = rw (c .before .node .given .1) at (c .before .before .before .before .before .before .before .find-node .ensures) in
@@ -285,7 +286,7 @@ build-row-children-less-2 t c = omega (arith, c .before .before .before .before 
 
 build-row-children-again-2 : (t : ℕ) → build-row-lts.Need-children-again-2 (row-callees t) (build-row-at t) build-row.Post build-row-Inv-children build-row-μ-children
 build-row-children-again-2 t c =
-    let s = c .before .before .before .before .before .before .before .before .before .before .before .before .before .before .before .before .before .before .before .before .before .before .before .before in
+    let s = c .before .before .before .before .before .before .before .before .before .before .before .before .before .before .before .before .before .before .before .before .before .before .before .before .before in
     let l = c .before .before .before .before .before .before .before .before .before .before .before .before .before .before .before .before .children in
     let k = on-case (getD (s .args .coefs .now) (s .args .i) 0) (getD (s .args .rests .now) (s .args .i + 1) 0) (s .args .r .0) (l .j) (c .before .before .before .before .before .before .before .before .before .before .before .before .branch .given .0 .0) (c .before .before .before .before .before .before .before .before .before .before .before .before .branch .given .0 .1 .0) (sym (c .before .before .before .before .before .before .before .before .before .before .before .before .branch .given .1) ∙ c .before .before .before .before .before .before .before .before .before .before .before .before .before .before .child .ensures) in
     let d = rw (c .before .before .node .given .1) at (c .before .before .before .before .before .before .before .before .find-node .ensures) in
@@ -304,7 +305,7 @@ build-row-same-length-4 t c = c .before .children .inv .1
 
 build-row-returns-2 : (t : ℕ) → build-row-lts.Need-returns-2 (row-callees t) (build-row-at t) build-row.Post build-row-Inv-children build-row-μ-children
 build-row-returns-2 t c =
-    let s = c .before .before .before .before .before .before .before .before .before in
+    let s = c .before .before .before .before .before .before .before .before .before .before in
     let l = c .before .children in
     sofar-end (s .args .coefs .now) (s .args .ends .now) (s .args .rests .now) (s .args .i) (s .args .r .0) (s .args .table .now) (s .args .count) (length (s .args .work .now)) (l .j) (l .e) (l .table) (l .m) (l .n) (s .pre .1 .0) (l .inv .0)
     (omega (arith, c .children-test .left, l .inv .2))
@@ -332,9 +333,9 @@ pub +build-node+build-row+find-node-spec : {M : Type 1} → statement M
     build-row-μ-children
     (build-row-mul-end t)
     (build-row-shared-slice-read-end t)
-    (build-row-mul-t22 t)
-    (build-row-shared-slice-read-t24 t)
-    (build-row-sub-t26 t)
+    (build-row-mul-all-below t)
+    (build-row-shared-slice-read-all-below t)
+    (build-row-all-below-requires t)
     (build-row-children-holds t)
     (build-row-child-requires t)
     (build-row-add-j t)

@@ -23,8 +23,8 @@ put-requires c κs =
     let v = settled-view (s .args .table .now) (s .args .main) (s .args .count) (length (s .args .work .now)) _ _ (s .pre .0 .runs) (s .pre .0 .apart) S in
     (S .within, omega (arith, c .before .before .before .before .before .before .before .before .if1 .left, S .long), v .0 .pending)
 
-add-t9 : tie.Need-add-t9
-add-t9 c = search needs
+add-t10 : tie.Need-add-t10
+add-t10 c = search needs
 
 same-length : tie.Need-same-length
 same-length c = c .before .before .put .kept .0 ∙ c .before .before .before .before .before .before .before .before .settle .kept .0
@@ -51,7 +51,7 @@ put-spec =
     returns
     settle-requires
     put-requires
-    add-t9
+    add-t10
     same-length
     same-length-2
     returns-2)

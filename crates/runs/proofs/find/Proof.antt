@@ -49,7 +49,7 @@ sub-find-sorted-2 c = search needs
 
 find-sorted-requires : tie.Need-find-sorted-requires
 find-sorted-requires c κs =
-    let a = c .before .before .before .before .before .before .before in
+    let a = c .before .before .before .before .before .before .before .before in
     let t = a .args .table .now in
     let m = a .args .main in
     let n = a .args .count in
@@ -64,15 +64,15 @@ enum-told-2 c = search needs
 
 returns : tie.Need-returns
 returns c =
-    let a = c .before .before .before .before .before .before .before .before .before .before in
+    let a = c .before .before .before .before .before .before .before .before .before .before .before in
     let t = a .args .table .now in
     find-runs t (a .args .main) (a .args .count) (a .pre .0) (a .pre .1) (a .args .level) (a .args .r .0) Nothing Nothing
-    (sym (c .before .before .before .before .enum-told .given .1) ∙ c .before .before .before .before .before .before .find-near .ensures)
+    (sym (c .before .before .before .before .before .enum-told .given .1) ∙ c .before .before .before .before .before .before .before .find-near .ensures)
     (sym (c .enum-told2 .given .1) ∙ rw (run-words t (a .args .main) (a .args .count) (a .pre .0)) at (c .before .before .find-sorted .ensures))
 
 add-n : tie.Need-add-n
 add-n c =
-    let a = c .before .before .before .before .before .before .before .before .before .before .before .before in
+    let a = c .before .before .before .before .before .before .before .before .before .before .before .before .before in
     let t = a .args .table .now in
     let m = a .args .main in
     let n = a .args .count in
@@ -82,10 +82,10 @@ add-n c =
 
 returns-2 : tie.Need-returns-2
 returns-2 c =
-    let a = c .before .before .before .before .before .before .before .before .before .before .before .before in
+    let a = c .before .before .before .before .before .before .before .before .before .before .before .before .before in
     let t = a .args .table .now in
     find-runs t (a .args .main) (a .args .count) (a .pre .0) (a .pre .1) (a .args .level) (a .args .r .0) Nothing (At (record { 0 = c .before .before .q .given .0 .0 .0 }))
-    (sym (c .before .before .before .before .before .before .enum-told .given .1) ∙ c .before .before .before .before .before .before .before .before .find-near .ensures)
+    (sym (c .before .before .before .before .before .before .before .enum-told .given .1) ∙ c .before .before .before .before .before .before .before .before .before .find-near .ensures)
     (sym (c .before .before .q .given .1) ∙ rw (run-words t (a .args .main) (a .args .count) (a .pre .0)) at (c .before .before .before .before .find-sorted .ensures))
 
 returns-3 : tie.Need-returns-3

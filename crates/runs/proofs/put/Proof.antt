@@ -14,20 +14,20 @@ mul-b c = search needs
 sub-n : tie.Need-sub-n
 sub-n c = search needs
 
-mul-place : tie.Need-mul-place
-mul-place c = search needs
+mul-place-near : tie.Need-mul-place-near
+mul-place-near c = search needs
 
-sub-place : tie.Need-sub-place
-sub-place c = search needs
+sub-place-near : tie.Need-sub-place-near
+sub-place-near c = search needs
 
-part-place-start : tie.Need-part-place-start
-part-place-start c = search needs
+part-place-near-start : tie.Need-part-place-near-start
+part-place-near-start c = search needs
 
-part-place-end : tie.Need-part-place-end
-part-place-end c = search needs
+part-place-near-end : tie.Need-part-place-near-end
+part-place-near-end c = search needs
 
-place-requires : tie.Need-place-requires
-place-requires c κs =
+place-near-requires : tie.Need-place-near-requires
+place-near-requires c κs =
     let a = c .before .before .before in
     let t = a .args .table .now in
     (omega (arith, tail-length t (a .args .main) (a .args .count) (a .pre .0) (a .pre .1)), rw (tail-used t (a .args .main) (a .args .count) (a .pre .0) (a .pre .1)) (a .pre .2))
@@ -52,7 +52,7 @@ insert-requires c κs =
     let n = a .args .count - m in
     let long = tail-length t m (a .args .count) (a .pre .0) (a .pre .1) in
     let records = used-length (take (length t - m * 4) (drop (m * 4) t)) n (omega arith) in
-    (omega (arith, c .before .place .ensures .within), omega arith)
+    (omega (arith, c .before .place-near .ensures .within), omega arith)
 
 same-length : tie.Need-same-length
 same-length c = search needs
@@ -60,7 +60,7 @@ same-length c = search needs
 returns : tie.Need-returns
 returns c =
     let a = c .before .before .before .before .before .before .before .before in
-    let place = c .before .before .before .before .place in
+    let place = c .before .before .before .before .place-near in
     let insert = c .before .before .insert in
     put-in (a .args .table .now) (a .args .main) (a .args .count) (a .pre .0) (a .pre .1) (a .args .level) (a .args .r .0) (a .args .lower) (a .args .upper)
     (place .result) (insert .last .0) (place .ensures) (insert .ensures .0) (insert .kept .0)
@@ -71,11 +71,11 @@ put-spec =
     (tie.spec
     mul-b
     sub-n
-    mul-place
-    sub-place
-    part-place-start
-    part-place-end
-    place-requires
+    mul-place-near
+    sub-place-near
+    part-place-near-start
+    part-place-near-end
+    place-near-requires
     mul-insert
     sub-insert
     part-insert-start

@@ -4,9 +4,9 @@ use borrow.Author.Needs.{needs}
 use Prim.Native.Nat.{ℕ, _+_, _-_, _/_, _≤_, _<_}
 use native.Mathlib.Omega.{arith}
 use mathlib.Core.Path.{sym}
-use Rattle.table.specs.Order.{used, Bracket}
+use Rattle.table.specs.Order.{used}
 use Rattle.table.proofs.Flat.{used-length}
-use Rattle.table.proofs.Search.{bracket-start, bracket-up, bracket-down, bracket-met, words-below}
+use Rattle.table.proofs.Search.{Bracket, bracket-start, bracket-up, bracket-down, bracket-met, words-below}
 use Rattle.table.proofs.ordered.place_any.Statement.{statement}
 use Rattle.table.proofs.ordered.place_any.Tie as tie
 

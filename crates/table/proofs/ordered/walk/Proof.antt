@@ -1,14 +1,13 @@
--- `table::ordered::walk` keeps within the table, and ends: the measure is the number of records from p on. Assumes nothing.
+-- `table::ordered::walk` keeps within the table, and ends: the measure is the number of records that may still be passed. Assumes nothing.
 use borrow.Author.Needs.{needs}
-use Prim.Native.Nat.{_-_}
 use Rattle.table.proofs.ordered.walk.Statement.{statement}
 use Rattle.table.proofs.ordered.walk.Tie as tie
 
 abbrev Inv-loop : tie.InvT-loop
-Inv-loop table count from level sought p₀ p = Unit
+Inv-loop table count from level sought p₀ left₀ p left = Unit
 
 abbrev μ-loop : tie.MeasureT-loop
-μ-loop table count from level sought p₀ p = count - p
+μ-loop table count from level sought p₀ left₀ p left = left
 
 key-of-requires : tie.Need-key-of-requires Inv-loop μ-loop
 key-of-requires c κs = search needs
@@ -43,6 +42,9 @@ returns c = search needs
 add-p : tie.Need-add-p Inv-loop μ-loop
 add-p c = search needs
 
+sub-left : tie.Need-sub-left Inv-loop μ-loop
+sub-left c = search needs
+
 loop-less : tie.Need-loop-less Inv-loop μ-loop
 loop-less c = search needs
 
@@ -52,6 +54,9 @@ loop-again c = search needs
 returns-2 : tie.Need-returns-2 Inv-loop μ-loop
 returns-2 c = search needs
 
+returns-3 : tie.Need-returns-3 Inv-loop μ-loop
+returns-3 c = search needs
+
 pub walk-spec : {M : Type 1} → statement M
 walk-spec =
     tie.close
@@ -60,6 +65,7 @@ walk-spec =
     μ-loop
     key-of-requires
     loop-holds
+    returns
     mul-b
     mul-key-of
     shared-slice-read-key-of
@@ -67,8 +73,9 @@ walk-spec =
     mul-key-of-2
     shared-slice-read-key-of-2
     key-of-requires-2
-    returns
+    returns-2
     add-p
+    sub-left
     loop-less
     loop-again
-    returns-2)
+    returns-3)
