@@ -11,7 +11,7 @@ use native.Mathlib.Numerals.{add-one}
 use native.Mathlib.Omega.{arith}
 use lib.ListN.{length, getD}
 use lib.Dec.{leb, ltb}
-use borrow.Author.Tests.{ne-eqb, leb-true, ltb-true, ltb-false, lt-ltb, le-ltb}
+use borrow.Author.Tests.{ne-eqb, leb-true, ltb-true, ltb-false, lt-ltb}
 use Rattle.word.specs.Record.{Record, noRecord}
 use Rattle.table.specs.declared.Found.the-variants.{At, Nothing}
 use Rattle.table.specs.Find.{holds, findIn}
@@ -26,14 +26,6 @@ pub record Bracket (xs : List Record) (level x lo hi : ℕ) : Type 0 where
   pub within : hi ≤ length xs
   pub before : (k : ℕ) → k < lo → upperKey xs k < key level x
   pub after : (k : ℕ) → hi ≤ k → k < length xs → key level x ≤ upperKey xs k
-
--- At one level, keys compare as their second parts.
-pub key-same : (l m h x : ℕ) → l ≡ m → ltb h x ≡ ltb (key l h) (key m x)
-key-same l m h x q = go (ltb h x) refl
-  where
-    go : (b : Bool) → ltb h x ≡ b → ltb h x ≡ ltb (key l h) (key m x)
-    go true e = let p : h < x = ltb-true h x e in e ∙ sym (lt-ltb (key l h) (key m x) (omega arith))
-    go false e = let p : x ≤ h = ltb-false h x e in e ∙ sym (le-ltb (key l h) (key m x) (omega arith))
 
 uppers : (xs : List Record) → Sorted xs → (p q : ℕ) → p ≤ q → q < length xs → upperKey xs p ≤ upperKey xs q
 uppers xs s p q l h = ⊎-elim
@@ -117,7 +109,7 @@ bracket-half xs s level x p left half b some is B e = go (ltb (upperKey xs (p + 
         (bracket-wider xs level x p (p + half - 1) (p + (left - half)) (bracket-down xs s level x p (p + left) (p + half - 1) B (omega arith) (omega arith) t) (omega arith) (omega (arith, B .within)))
 
 -- The last of records in order has the highest level.
-pub low-last : (xs : List Record) → Sorted xs → (n : ℕ) → length xs ≡ suc n → getD xs n noRecord .level < 2147483648 → Low xs
+pub low-last : (xs : List Record) → Sorted xs → (n : ℕ) → length xs ≡ suc n → getD xs n noRecord .level < lowLevels → Low xs
 low-last xs s n e h k l = let a = uppers xs s k n (omega arith) (omega arith) in let b = proper-at xs s n (omega arith) in let c = proper-at xs s k l in omega (arith, b .1, c .1)
 
 -- Where the last of n records lies before x, so do all of them: the place is not before n.
@@ -179,18 +171,17 @@ module _ (xs : List Record) (s : Sorted xs) (wanted r p : ℕ) (pl : Placed xs w
       none : NoneBefore xs (length xs) wanted r
       none i l = decide i l (ltb i p) refl
 
--- A test on the words of record m is the test on the record.
-module _ (t : List ℕ) (count : ℕ) (room : count * 4 ≤ length t) (m : ℕ) (h : m < count) (level r : ℕ) (b v : Bool) (value : b ≡ v) where
-  pub words-below : b ≡ ltb (key (getD t (m * 4) 0) (getD t (m * 4 + 2) 0)) (key level r) → ltb (upperKey (used t count) m) (key level r) ≡ v
-  words-below e = rw (used-at t count room m h) (sym e ∙ value)
-
--- What the search compares, as a bit.
+-- What a search compares of record m's words is what the record has.
 module _ (t : List ℕ) (count : ℕ) (room : count * 4 ≤ length t) (m : ℕ) (h : m < count) where
   pub words-low : Low (used t count) → getD t (m * 4) 0 < lowLevels
   words-low low = rw (used-at t count room m h) at (low m (omega (arith, used-length t count room)))
 
   pub words-upper : Sorted (used t count) → getD t (m * 4 + 2) 0 < 4294967296
   words-upper s = rw (used-at t count room m h) at (proper-at (used t count) s m (omega (arith, used-length t count room)) .1)
+
+  -- as a test, and as a bit
+  pub words-below : (level r : ℕ) (b v : Bool) → b ≡ v → b ≡ ltb (key (getD t (m * 4) 0) (getD t (m * 4 + 2) 0)) (key level r) → ltb (upperKey (used t count) m) (key level r) ≡ v
+  words-below level r b v value e = rw (used-at t count room m h) (sym e ∙ value)
 
   pub words-bit : (level r b : ℕ) → b ≡ bitOf (ltb (key (getD t (m * 4) 0) (getD t (m * 4 + 2) 0)) (key level r)) → b ≡ bitOf (ltb (upperKey (used t count) m) (key level r))
   words-bit level r b e = rw (used-at t count room m h) e

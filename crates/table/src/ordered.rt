@@ -30,14 +30,7 @@ pub fn key_of(level: u32, x: u32) -> u64
 fn below(level: u32, upper: u32, wanted: u32, r: Remainder) -> bool
     ensures { λ b. ⌜ b ≡ ltb (key level upper) (key wanted (r .0)) ⌝ }
 {
-    let x = r.0;
-    if level < wanted {
-        return true;
-    }
-    if wanted < level {
-        return false;
-    }
-    upper < x
+    key_of(level, upper) < key_of(wanted, r.0)
 }
 
 // Whether a is less than b, as a number, 1 or 0, by a difference in place of a branch: what a search compares cannot be foreseen.
@@ -146,22 +139,6 @@ fn found_at(table: &[u32], count: usize, p: usize, level: u32, r: Remainder) -> 
     Found::Nothing
 }
 
-// The finder's reply on the first `count` records, which are in order; the cursor moves to the place of the remainder.
-pub fn find_sorted(
-    table: &[u32],
-    count: usize,
-    cursor: &mut usize,
-    level: u32,
-    r: Remainder,
-) -> Found
-    requires { ⌜ (count * 4 ≤ length (now table)) × Sorted (used (now table) count) ⌝ }
-    ensures { λ f. ⌜ f ≡ findIn (used (now (table .entry)) count) level (r .0) ⌝ }
-{
-    let p = place(table, count, level, r);
-    *cursor = p;
-    found_at(table, count, p, level, r)
-}
-
 // Whether the place of the remainder among the first `count` records is n, as the records on both sides tell.
 fn placed_at(table: &[u32], count: usize, n: usize, level: u32, r: Remainder) -> bool
     requires { ⌜ (count * 4 ≤ length (now table)) × Sorted (used (now table) count) ⌝ }
@@ -188,12 +165,18 @@ pub fn place_near(table: &[u32], count: usize, guess: usize, level: u32, r: Rema
     place(table, count, level, r)
 }
 
-// The same, where the place is looked for at the cursor first.
-fn find_place(table: &[u32], count: usize, cursor: &mut usize, level: u32, r: Remainder) -> Found
+// The finder's reply on the first `count` records, which are in order; the cursor moves to the place of the remainder.
+pub fn find_sorted(
+    table: &[u32],
+    count: usize,
+    cursor: &mut usize,
+    level: u32,
+    r: Remainder,
+) -> Found
     requires { ⌜ (count * 4 ≤ length (now table)) × Sorted (used (now table) count) ⌝ }
     ensures { λ f. ⌜ f ≡ findIn (used (now (table .entry)) count) level (r .0) ⌝ }
 {
-    let p = place_near(table, count, *cursor, level, r);
+    let p = place(table, count, level, r);
     *cursor = p;
     found_at(table, count, p, level, r)
 }
@@ -206,8 +189,8 @@ pub fn find_near(table: &[u32], count: usize, guess: usize, level: u32, r: Remai
     if hit(table, count, guess, level, r) {
         return Found::At(NodeNumber(guess));
     }
-    let mut cursor = guess;
-    find_place(table, count, &mut cursor, level, r)
+    let p = place_near(table, count, guess, level, r);
+    found_at(table, count, p, level, r)
 }
 
 // Whether an upper end lies before the remainder, as 1 or 0.
@@ -248,7 +231,6 @@ pub fn pass_few(table: &[u32], count: usize, from: usize, r: Remainder) -> usize
 fn walk(table: &[u32], count: usize, from: usize, level: u32, r: Remainder) -> usize
     requires { ⌜ count * 4 ≤ length (now table) ⌝ }
 {
-    let sought = key_of(level, r.0);
     let mut p = from;
     let mut left = FEW;
     while 0 < left {
@@ -256,7 +238,7 @@ fn walk(table: &[u32], count: usize, from: usize, level: u32, r: Remainder) -> u
             return p;
         }
         let b = p * RECORD;
-        if sought <= key_of(table[b], table[b + 2]) {
+        if !below(table[b], table[b + 2], level, r) {
             return p;
         }
         p += 1;
@@ -276,8 +258,9 @@ pub fn find_from(table: &[u32], count: usize, cursor: &mut usize, level: u32, r:
         *cursor = p;
         return Found::At(NodeNumber(p));
     }
-    *cursor = walk(table, count, p, level, r);
-    find_place(table, count, cursor, level, r)
+    let q = walk(table, count, p, level, r);
+    *cursor = place_near(table, count, q, level, r);
+    found_at(table, count, *cursor, level, r)
 }
 
 // Moves the words from place b up to n, n not included, up by one record.

@@ -1,20 +1,22 @@
--- `table::ordered::below` meets its contract: where the levels differ they decide the order of the keys, else the upper end does. Assumes nothing.
-use borrow.Author.Tests.{lt-ltb, le-ltb}
-use native.Mathlib.Omega.{arith}
-use mathlib.Core.Path.{sym}
-use Rattle.table.specs.Order.{key}
-use Rattle.table.proofs.Search.{key-same}
+-- `table::ordered::below` meets its contract: the keys are compared. Assumes nothing.
+use mathlib.Core.Path.{refl}
+use borrow.Author.Needs.{needs}
 use Rattle.table.proofs.ordered.below.Statement.{statement}
 use Rattle.table.proofs.ordered.below.Tie as tie
 
+key-of-requires : tie.Need-key-of-requires
+key-of-requires c κs = search needs
+
+key-of-requires-2 : tie.Need-key-of-requires-2
+key-of-requires-2 c κs = search needs
+
 returns : tie.Need-returns
-returns c = let a = c .before .args in sym (lt-ltb (key (a .level) (a .upper)) (key (a .wanted) (a .r .0)) (omega arith))
-
-returns-2 : tie.Need-returns-2
-returns-2 c = let a = c .before .before .args in sym (le-ltb (key (a .level) (a .upper)) (key (a .wanted) (a .r .0)) (omega arith))
-
-returns-3 : tie.Need-returns-3
-returns-3 c = let a = c .before .before .args in key-same (a .level) (a .wanted) (a .upper) (a .r .0) (omega arith)
+returns c = rw (c .before .key-of .ensures, c .key-of2 .ensures) refl
 
 pub below-spec : {M : Type 1} → statement M
-below-spec = tie.close (tie.spec returns returns-2 returns-3)
+below-spec =
+    tie.close
+    (tie.spec
+    key-of-requires
+    key-of-requires-2
+    returns)

@@ -11,8 +11,11 @@ hit-requires c κs = search needs
 returns : tie.Need-returns
 returns c = let a = c .before .before .before in hits-reply _ (a .pre .1) _ _ (a .args .guess) (sym (c .before .hit .ensures) ∙ c .if1 .taken)
 
-find-place-requires : tie.Need-find-place-requires
-find-place-requires c κs = search needs
+place-near-requires : tie.Need-place-near-requires
+place-near-requires c κs = search needs
+
+found-at-requires : tie.Need-found-at-requires
+found-at-requires c κs = search needs
 
 returns-2 : tie.Need-returns-2
 returns-2 c = search needs
@@ -23,5 +26,6 @@ find-near-spec =
     (tie.spec
     hit-requires
     returns
-    find-place-requires
+    place-near-requires
+    found-at-requires
     returns-2)

@@ -4,40 +4,40 @@ use Rattle.table.proofs.ordered.walk.Statement.{statement}
 use Rattle.table.proofs.ordered.walk.Tie as tie
 
 abbrev Inv-loop : tie.InvT-loop
-Inv-loop table count from level sought p₀ left₀ p left = Unit
+Inv-loop table count from level r p₀ left₀ p left = Unit
 
 abbrev μ-loop : tie.MeasureT-loop
-μ-loop table count from level sought p₀ left₀ p left = left
-
-key-of-requires : tie.Need-key-of-requires Inv-loop μ-loop
-key-of-requires c κs = search needs
+μ-loop table count from level r p₀ left₀ p left = left
 
 loop-holds : tie.Need-loop-holds Inv-loop μ-loop
 loop-holds c = search needs
 
+returns : tie.Need-returns Inv-loop μ-loop
+returns c = search needs
+
 mul-b : tie.Need-mul-b Inv-loop μ-loop
 mul-b c = search needs
 
-mul-key-of : tie.Need-mul-key-of Inv-loop μ-loop
-mul-key-of c = search needs
+mul-below : tie.Need-mul-below Inv-loop μ-loop
+mul-below c = search needs
 
-shared-slice-read-key-of : tie.Need-shared-slice-read-key-of Inv-loop μ-loop
-shared-slice-read-key-of c = search needs
+shared-slice-read-below : tie.Need-shared-slice-read-below Inv-loop μ-loop
+shared-slice-read-below c = search needs
 
-add-key-of : tie.Need-add-key-of Inv-loop μ-loop
-add-key-of c = search needs
+add-below : tie.Need-add-below Inv-loop μ-loop
+add-below c = search needs
 
-mul-key-of-2 : tie.Need-mul-key-of-2 Inv-loop μ-loop
-mul-key-of-2 c = search needs
+mul-below-2 : tie.Need-mul-below-2 Inv-loop μ-loop
+mul-below-2 c = search needs
 
-shared-slice-read-key-of-2 : tie.Need-shared-slice-read-key-of-2 Inv-loop μ-loop
-shared-slice-read-key-of-2 c = search needs
+shared-slice-read-below-2 : tie.Need-shared-slice-read-below-2 Inv-loop μ-loop
+shared-slice-read-below-2 c = search needs
 
-key-of-requires-2 : tie.Need-key-of-requires-2 Inv-loop μ-loop
-key-of-requires-2 c κs = search needs
+below-requires : tie.Need-below-requires Inv-loop μ-loop
+below-requires c κs = search needs
 
-returns : tie.Need-returns Inv-loop μ-loop
-returns c = search needs
+returns-2 : tie.Need-returns-2 Inv-loop μ-loop
+returns-2 c = search needs
 
 add-p : tie.Need-add-p Inv-loop μ-loop
 add-p c = search needs
@@ -51,9 +51,6 @@ loop-less c = search needs
 loop-again : tie.Need-loop-again Inv-loop μ-loop
 loop-again c = search needs
 
-returns-2 : tie.Need-returns-2 Inv-loop μ-loop
-returns-2 c = search needs
-
 returns-3 : tie.Need-returns-3 Inv-loop μ-loop
 returns-3 c = search needs
 
@@ -63,16 +60,15 @@ walk-spec =
     (tie.spec
     Inv-loop
     μ-loop
-    key-of-requires
     loop-holds
     returns
     mul-b
-    mul-key-of
-    shared-slice-read-key-of
-    add-key-of
-    mul-key-of-2
-    shared-slice-read-key-of-2
-    key-of-requires-2
+    mul-below
+    shared-slice-read-below
+    add-below
+    mul-below-2
+    shared-slice-read-below-2
+    below-requires
     returns-2
     add-p
     sub-left
