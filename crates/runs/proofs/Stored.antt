@@ -6,8 +6,8 @@ use native.Mathlib.Omega.{arith}
 use lib.ListN.{length, getD, take, drop, set, length-append, length-drop}
 use lib.Seq.{length-take-le, drop-append-add, drop-drop, set-split}
 use Rattle.word.specs.Record.{Record, records, noRecord, laid}
+use Rattle.table.specs.Order.{putRecord}
 use Rattle.table.proofs.Flat.{recordAt, record-at, records-length, records-take, records-drop, records-append, records-laid}
-use Rattle.runs.specs.Merging.{putRecord}
 
 -- The record that is read, word by word.
 pub words-at : (s : List ℕ) (n : ℕ) → n * 4 + 4 ≤ length s → getD (records s) n noRecord ≡ recordAt s n

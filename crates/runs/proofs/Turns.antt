@@ -10,10 +10,10 @@ use lib.ListN.{length, getD, take, drop, set, take-append-drop, length-set}
 use lib.Seq.{take-suc, append-snoc, getD-take, take-at, drop-at, length-take-le, take-take, take-set-le, set-split}
 use borrow.Author.Tests.{lt-ltb}
 use Rattle.word.specs.Record.{Record, records, noRecord}
-use Rattle.table.specs.Order.{used, key}
+use Rattle.table.specs.Order.{used, key, putRecord}
 use Rattle.table.proofs.Flat.{records-length, used-length, used-at}
 use Rattle.runs.specs.Runs.{run, lowerKey, after, merge, Merged}
-use Rattle.runs.specs.Merging.{putRecord, lastAbove}
+use Rattle.runs.specs.Merging.{lastAbove}
 use Rattle.runs.proofs.Views.{merge-zero, merge-length}
 use Rattle.runs.proofs.Stored.{put-length, put-beyond, put-records}
 

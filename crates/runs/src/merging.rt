@@ -1,13 +1,14 @@
 // Merging two runs from the end on: of the two last records that are left, the later is stored behind all that are left.
 use table::ordered::key_of;
+use table::ordered::store_record;
 use word::RECORD;
 ghost use mathlib.Core.Path.{_≡_};
 ghost use Prim.Native.Nat.{_+_, _-_, _*_, _≤_};
 ghost use lib.ListN.{length, take, getD};
 ghost use Rattle.word.specs.Record.{records, noRecord};
-ghost use Rattle.table.specs.Order.{used};
+ghost use Rattle.table.specs.Order.{used, putRecord};
 ghost use Rattle.runs.specs.Runs.{run, Merged};
-ghost use Rattle.runs.specs.Merging.{putRecord, lastAbove};
+ghost use Rattle.runs.specs.Merging.{lastAbove};
 
 // Copies words to the beginning of others.
 pub fn copy_words(from: &[u32], to: &mut [u32])
@@ -31,18 +32,6 @@ fn last_above(table: &[u32], i: usize, k: u64) -> bool
     }
     let b = (i - 1) * RECORD;
     k < key_of(table[b], table[b + 1])
-}
-
-// Stores a record at number k.
-fn store_record(table: &mut [u32], k: usize, level: u32, lower: u32, upper: u32, first: u32)
-    requires { ⌜ k * 4 + 4 ≤ length (now table) ⌝ }
-    ensures { λ _. ⌜ now (table .exit) ≡ putRecord (now (table .entry)) k (record { level = level; lower = lower; upper = upper; first = first }) ⌝ }
-{
-    let b = k * RECORD;
-    table[b] = level;
-    table[b + 1] = lower;
-    table[b + 2] = upper;
-    table[b + 3] = first;
 }
 
 // Copies record `from` of the table to number `to`. All four words are read before one is stored, which lets the compiler move them at once.

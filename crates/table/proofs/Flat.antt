@@ -8,7 +8,7 @@ use native.Mathlib.Omega.{arith}
 use lib.ListN.{length, getD, take, drop, set}
 use lib.Seq.{getD-take, length-take-le, sets, sets-eq}
 use Rattle.word.specs.Record.{Record, records, noRecord, laid}
-use Rattle.table.specs.Order.{used}
+use Rattle.table.specs.Order.{used, putRecord}
 
 -- The record that four words make.
 abbrev pub recordOf : ℕ → ℕ → ℕ → ℕ → Record
@@ -85,7 +85,7 @@ records-laid x ws = refl
 -- THE FOUR STORES of a record at number k.
 pub stored : (t : List ℕ) (k : ℕ) (x : Record) → k * 4 + 4 ≤ length t
     → set (set (set (set t (k * 4) (x .level)) (k * 4 + 1) (x .lower)) (k * 4 + 2) (x .upper)) (k * 4 + 3) (x .first)
-    ≡ take (k * 4) t ++ (laid x ++ drop (k * 4 + 4) t)
+    ≡ putRecord t k x
 stored t k x room =
     let i : ℕ = k * 4 in
     let s1 : i + 1 ≡ suc i = omega arith in

@@ -9,8 +9,8 @@ use native.Mathlib.Omega.{arith}
 use lib.ListN.{length, getD, take, drop, set, List·getD-append, take-append-drop, length-append, length-drop}
 use lib.Seq.{drop-cons, take-suc, append-snoc, set-at, getD-take, take-at, drop-at, length-take-le, take-take, take-append-le}
 use Rattle.word.specs.Record.{Record, records, laid}
-use Rattle.table.specs.Order.{used, insertAt}
-use Rattle.table.proofs.Flat.{records-length, records-take, records-drop, records-append, records-laid, stored}
+use Rattle.table.specs.Order.{used, putRecord, insertAt}
+use Rattle.table.proofs.Flat.{records-length, records-take, records-drop, records-append, records-laid}
 
 -- The words from b up to n moved up by four.
 abbrev pub gap : List ℕ → ℕ → ℕ → List ℕ
@@ -45,34 +45,21 @@ pub gap-step : (t : List ℕ) (i n : ℕ) → 0 < i → i ≤ n → n + 4 ≤ le
 gap-step t zero n p h room = absurd (not-suc-le-zero p)
 gap-step t (suc j) n p h room = let e : suc j - 1 ≡ j = omega arith in rw e (gap-suc t j n h room)
 
-gap-length : (t : List ℕ) (b n : ℕ) → b ≤ n → n + 4 ≤ length t → length (gap t b n) ≡ length t
-gap-length t b n h room =
-    let l1 = length-take-le (b + 4) t (omega arith) in
-    let l2 = length-drop b t in
-    let l3 = length-take-le (n - b) (drop b t) (omega arith) in
-    let l4 = length-drop (n + 4) t in
-    let l5 = length-append (take (n - b) (drop b t)) (drop (n + 4) t) in
-    let l6 = length-append (take (b + 4) t) (take (n - b) (drop b t) ++ drop (n + 4) t) in
-    omega arith
-
 -- The words before, the record's, those of the records after it, and what lies past them.
 abbrev inserted : List ℕ → ℕ → ℕ → Record → List ℕ
 inserted t count p x = take (p * 4) t ++ (laid x ++ (take (count * 4 - p * 4) (drop (p * 4) t) ++ drop (count * 4 + 4) t))
 
--- The four stores of a record into the gap.
-stores : (t g : List ℕ) (count p : ℕ) (x : Record) → p ≤ count → count * 4 + 4 ≤ length t → g ≡ gap t (p * 4) (count * 4)
-    → set (set (set (set g (p * 4) (x .level)) (p * 4 + 1) (x .lower)) (p * 4 + 2) (x .upper)) (p * 4 + 3) (x .first) ≡ inserted t count p x
+-- A record stored into the gap.
+stores : (t g : List ℕ) (count p : ℕ) (x : Record) → p ≤ count → count * 4 + 4 ≤ length t → g ≡ gap t (p * 4) (count * 4) → putRecord g p x ≡ inserted t count p x
 stores t g count p x h room eq =
     let i : ℕ = p * 4 in
     let n : ℕ = count * 4 in
     let rest : List ℕ = take (n - i) (drop i t) ++ drop (n + 4) t in
-    let whole : length (gap t i n) ≡ length t = gap-length t i n (omega arith) (omega arith) in
     let long : length (take (i + 4) t) ≡ i + 4 = length-take-le (i + 4) t (omega arith) in
     let e2 : take i (gap t i n) ≡ take i t = take-append-le i (take (i + 4) t) rest (omega arith) ∙ take-take i (i + 4) t (omega arith) in
     let e3 : drop (i + 4) (gap t i n) ≡ rest = drop-at (take (i + 4) t) rest (i + 4) long in
     rw eq
-    (stored (gap t i n) p x (omega arith)
-    ∙ ap (λ (q : List ℕ). q ++ (laid x ++ drop (i + 4) (gap t i n))) e2
+    (ap (λ (q : List ℕ). q ++ (laid x ++ drop (i + 4) (gap t i n))) e2
     ∙ ap (λ (q : List ℕ). take i t ++ (laid x ++ q)) e3)
 
 front : (c : ℕ) (rs ds : List Record) → c ≤ length rs → take c (take (c - 0) rs ++ ds) ≡ take c rs
@@ -123,8 +110,7 @@ module _ (t : List ℕ) (count p : ℕ) (x : Record) (h : p ≤ count) (room : c
       ∙ drop-at (before ++ (laid x ++ moved)) past (count * 4 + 4) (omega arith)
 
   -- WHAT THE INSERTION LEAVES: the records with the new one at number p, and the words past them as they were.
-  pub insert-leaves : (g s : List ℕ) → g ≡ gap t (p * 4) (count * 4)
-      → s ≡ set (set (set (set g (p * 4) (x .level)) (p * 4 + 1) (x .lower)) (p * 4 + 2) (x .upper)) (p * 4 + 3) (x .first)
+  pub insert-leaves : (g s : List ℕ) → g ≡ gap t (p * 4) (count * 4) → s ≡ putRecord g p x
       → (used s (count + 1) ≡ insertAt p x (used t count)) × (drop (count * 4 + 4) s ≡ drop (count * 4 + 4) t)
   insert-leaves g s e q =
       let r : s ≡ inserted t count p x = q ∙ stores t g count p x h room e in

@@ -4,10 +4,10 @@ use Prim.Native.Nat.{ℕ, zero, suc, _+_, _-_, _*_, _≤_, _<_}
 use mathlib.Core.Logic.{_⊎_}
 use mathlib.Core.Bool.{Bool, true, false, _&&_, _||_}
 use mathlib.Core.Path.{_≡_}
-use mathlib.Core.List.{List, [], _∷_}
+use mathlib.Core.List.{List, [], _∷_, _++_}
 use lib.Dec.{eqb, leb, ltb}
-use lib.ListN.{length, getD, take}
-use Rattle.word.specs.Record.{Record, records, noRecord}
+use lib.ListN.{length, getD, take, drop}
+use Rattle.word.specs.Record.{Record, records, laid, noRecord}
 use Rattle.table.specs.Find.{holds}
 
 -- The first n records of a list of words.
@@ -70,6 +70,10 @@ bitOf false = 0
 abbrev pub lastBelow : List Record → ℕ → ℕ → ℕ → Bool
 lastBelow xs level x n =
     eqb n 0 || (leb n (length xs) && ltb (upperKey xs (n - 1)) (key level x))
+
+-- The words with record number k replaced.
+abbrev pub putRecord : List ℕ → ℕ → Record → List ℕ
+putRecord t k x = take (k * 4) t ++ (laid x ++ drop (k * 4 + 4) t)
 
 -- A record put in at number p.
 unfoldable pub insertAt : ℕ → Record → List Record → List Record

@@ -11,7 +11,7 @@ ghost use Prim.Native.Nat.{_+_, _-_, _*_, _≤_, _<_};
 ghost use lib.Dec.{ltb};
 ghost use lib.ListN.{length, take, drop};
 ghost use Rattle.table.specs.Find.{findIn};
-ghost use Rattle.table.specs.Order.{used, key, Sorted, Placed, lastBelow, lowLevels, Low, hits, bitOf, insertAt};
+ghost use Rattle.table.specs.Order.{used, key, Sorted, Placed, lastBelow, lowLevels, Low, hits, bitOf, putRecord, insertAt};
 
 // Levels are low below this number.
 const LOW: u32 = 2147483648;
@@ -275,16 +275,24 @@ fn open_gap(table: &mut [u32], b: usize, n: usize)
     }
 }
 
+// Stores a record at number k.
+pub fn store_record(table: &mut [u32], k: usize, level: u32, lower: u32, upper: u32, first: u32)
+    requires { ⌜ k * 4 + 4 ≤ length (now table) ⌝ }
+    ensures { λ _. ⌜ now (table .exit) ≡ putRecord (now (table .entry)) k (record { level = level; lower = lower; upper = upper; first = first }) ⌝ }
+{
+    let b = k * RECORD;
+    table[b] = level;
+    table[b + 1] = lower;
+    table[b + 2] = upper;
+    table[b + 3] = first;
+}
+
 // Puts a record with the fourth word 0 at number p of the first `count` records, moves those from p on up by one, and keeps the words past them.
 pub fn insert(table: &mut [u32], count: usize, p: usize, level: u32, lower: u32, upper: u32)
     requires { ⌜ (p ≤ count) × (count * 4 + 4 ≤ length (now table)) ⌝ }
     ensures { λ _. ⌜ (used (now (table .exit)) (count + 1) ≡ insertAt p (record { level = level; lower = lower; upper = upper; first = 0 }) (used (now (table .entry)) count))
         × (drop (count * 4 + 4) (now (table .exit)) ≡ drop (count * 4 + 4) (now (table .entry))) ⌝ }
 {
-    let b = p * RECORD;
-    open_gap(table, b, count * RECORD);
-    table[b] = level;
-    table[b + 1] = lower;
-    table[b + 2] = upper;
-    table[b + 3] = 0;
+    open_gap(table, p * RECORD, count * RECORD);
+    store_record(table, p, level, lower, upper, 0);
 }

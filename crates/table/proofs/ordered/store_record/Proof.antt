@@ -1,10 +1,10 @@
--- `runs::merging::store_record` meets its contract, by the law of four stores. Assumes nothing.
+-- `table::ordered::store_record` meets its contract, by the law of four stores. Assumes nothing.
 use native.Mathlib.Omega.{arith}
 use lib.ListN.{length-set}
 use borrow.Author.Needs.{needs}
 use Rattle.table.proofs.Flat.{recordOf, stored}
-use Rattle.runs.proofs.merging.store_record.Statement.{statement}
-use Rattle.runs.proofs.merging.store_record.Tie as tie
+use Rattle.table.proofs.ordered.store_record.Statement.{statement}
+use Rattle.table.proofs.ordered.store_record.Tie as tie
 
 mul-b : tie.Need-mul-b
 mul-b c = search needs
