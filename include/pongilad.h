@@ -84,7 +84,8 @@ typedef struct {
 
 /* What pongilad_find and pongilad_find_node reply.
  *   found   1 where there is such a record, 0 where there is none
- *   number  the record's number, from 0; 0 where there is none */
+ *   number  found 1: the record's number, from 0; found 0: the gap, which is how many records are of a smaller level, or of the
+ *           level with an upper end below the remainder */
 typedef struct {
     uint64_t found, number;
 } pongilad_found;
@@ -111,9 +112,10 @@ typedef struct {
 pongilad_encoded pongilad_encode(const uint32_t *words, size_t words_length, uint32_t *table, size_t table_length, uint32_t *edges,
                                  size_t edges_length, uint32_t *clauses, size_t clauses_length);
 
-/* Finds the first record of the level whose label holds the remainder: lower end <= remainder <= upper end.
+/* Finds the first record of the level whose label holds the remainder: lower end <= remainder <= upper end; or counts the gap.
  * Words behind the last full record of four are not read. Every table is legal, of any length and also one that no encoder wrote; words of 0 behind
- * the nodes are records of level 0 with the label 0 to 0. */
+ * the nodes are records of level 0 with the label 0 to 0, and the gap counts them (at level 0 where the remainder is above 0). In the nodes that
+ * pongilad_encode counts, lent without what lies behind them, the gap is the number that a node with this remainder would have. */
 pongilad_found pongilad_find(const uint32_t *table, size_t table_length, uint32_t level, uint32_t remainder);
 
 /* Finds the same in a table that is a list of records: nodes_length counts records, not words. The reply is that of pongilad_find

@@ -7,9 +7,7 @@ use word::Remainder;
 ghost use mathlib.Core.Path.{_≡_};
 ghost use Prim.Native.Nat.{_+_, _-_, _*_, _/_, _<_, _≤_, min, max};
 ghost use lib.ListN.{length, getD};
-ghost use Rattle.table.specs.declared.Found.the-variants.{Nothing};
-ghost use Rattle.table.specs.Find.{findIn};
-ghost use Rattle.table.specs.Order.{used};
+ghost use Rattle.table.specs.Order.{used, Missing};
 ghost use Rattle.constraint.specs.Lent.{Lent};
 ghost use Rattle.builder.specs.Branch.{ends as ends′, branchOf, cutOf, overlapOf};
 ghost use Rattle.builder.specs.Built.{Ready, Two, Good, PutOk, NodeOk, RowOk, RootOk};
@@ -120,7 +118,8 @@ fn label_at(table: &[u32], k: NodeNumber) -> Ends
     }
 }
 
-// Puts a record for the label into the table's second run, where its place is looked for at `near` first. Before the run grows too long it is merged into the first.
+// Puts a record for the label into the table's second run, at the gap, which is looked for at `near` first. Before the run grows too long it is merged into the
+// first.
 fn put(
     table: &mut [u32],
     work: &mut [u32],
@@ -131,7 +130,7 @@ fn put(
     r: Remainder,
     e: Ends,
 ) -> Built
-    requires { ⌜ Two (now table) main count (length (now work)) × (4 ≤ length (now work)) ⌝ }
+    requires { ⌜ Two (now table) main count (length (now work)) × (4 ≤ length (now work)) × Missing (used (now table) count) level (r .0) ⌝ }
     ensures { λ b. ⌜ PutOk (now (table .entry)) main count (length (now (work .entry))) level (r .0) e (now (table .exit)) b ⌝ }
 {
     if table.len() / RECORD <= count {
@@ -142,7 +141,7 @@ fn put(
     Built::Done(k, count + 1, e)
 }
 
-// The node of an undecided remainder at level i, found or built.
+// The node of an undecided remainder at level i, found or built. Of the reply's gap, `near` is the second run's part, where the new record will stand.
 fn find_node<'a>(
     coefs: &'a [u32],
     ends: &'a [u32],
@@ -167,8 +166,8 @@ fn find_node<'a>(
     Built::Done(main, count, label_at(table, k))
 }
 
-// The node of an undecided remainder at level i that no record holds, built from its row. The row's own nodes stand behind it, so its place is still `near`, where
-// it was looked for, unless the runs were merged in between.
+// The node of an undecided remainder at level i that no record holds, built from its row. The row's own nodes stand behind it, so the gap is still `near`, as
+// the finder replied, unless the runs were merged in between.
 fn build_node<'a>(
     coefs: &'a [u32],
     ends: &'a [u32],
@@ -183,7 +182,7 @@ fn build_node<'a>(
 ) -> Built
     requires { ⌜ Ready (now coefs) (now ends) (now rests) i ⌝ }
     requires { ⌜ Good (now coefs) (now ends) (now table) main count (length (now work)) × (4 ≤ length (now work)) ⌝ }
-    requires { ⌜ (r .0 < getD (now rests) i 0) × (findIn (used (now table) count) (i + 1) (r .0) ≡ Nothing) ⌝ }
+    requires { ⌜ (r .0 < getD (now rests) i 0) × Missing (used (now table) count) (i + 1) (r .0) ⌝ }
     ensures { λ b. ⌜ NodeOk (now (coefs .entry)) (now (ends .entry)) i (r .0) (now (table .entry)) count (length (now (work .entry))) (now (table .exit)) b ⌝ }
 {
     let row = build_row(coefs, ends, rests, table, work, main, count, i, r);

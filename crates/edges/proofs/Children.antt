@@ -44,7 +44,7 @@ leads-fit xs level top (pos r) h = go (leb top r)
   where
     found : (f : Found) → findIn xs level r ≡ f → edgeWord (edgeFound f) ≤ 4294967295
     found (At k) e = omega (arith, find-says xs level r (k .0) e .0)
-    found Nothing e = omega arith
+    found (Nothing gap) e = omega arith
 
     go : (b : Bool) → edgeWord (cond b T (edgeFound (findIn xs level r))) ≤ 4294967295
     go true = omega arith

@@ -1,75 +1,73 @@
 -- THE SEARCH COMES TO THE DEFINITION'S REPLY: each record that it reads leaves what it comes to as it was. Assumes nothing.
-use mathlib.Core.Path.{_≡_, refl, sym, ap, _∙_}
+use mathlib.Core.Path.{_≡_, refl}
 use mathlib.Core.List.{List}
 use mathlib.Core.Bool.{Bool, true, false}
-use Prim.Native.Nat.{ℕ, suc, _-_, _≤_, _<_}
-use native.Mathlib.Numerals.{add-one}
+use Prim.Native.Nat.{ℕ, _+_, _-_, _≤_, _<_}
 use native.Mathlib.Omega.{arith}
-use lib.ListN.{length, getD, drop, length-map, List·getD-map, drop-of-length-le}
+use lib.ListN.{length, getD, length-map, List·getD-map}
 use Rattle.word.specs.Record.{Record}
-use Rattle.table.specs.declared.Found.{Found}
-use Rattle.table.specs.declared.Found.the-variants.{At, Nothing}
-use Rattle.table.specs.Find.{holds, foundIf, orElse, findFrom, findIn}
-use Rattle.table.proofs.Laws.{find-step}
+use Rattle.table.specs.declared.Found.the-variants.{Nothing}
+use Rattle.table.specs.Find.{holds, liesBefore, bitOf, findIn}
+use Rattle.table.proofs.Laws.{Past, past-start, past-within, past-end, past-hit, past-miss}
 use Rattle.nodes.specs.declared.Node.{Node}
 use Rattle.nodes.specs.declared.Search.{Search}
 use Rattle.nodes.specs.Nodes.{recordOf, recordsOf}
-use Rattle.nodes.specs.Search.{begun, moved, stepped}
+use Rattle.nodes.specs.Search.{begun, gapOf, moved, stepped}
 
 module _ (ns : List Node) (level r : ℕ) where
-  -- what is found from record k on
-  abbrev from : ℕ → Found
-  from k = findFrom k (drop k (recordsOf ns)) level r
+  abbrev xs : List Record
+  xs = recordsOf ns
 
-  -- THE INVARIANT: the reply so far or else what is found from the next record on is the definition's reply, and nothing is found while a record is next.
+  -- THE INVARIANT: while a record is next, nothing is found before it, and the reply so far has the gap; where none is next, the reply so far is the
+  -- definition's reply.
   pub record Onward (s : Search) : Type 0 where
-    pub comes : orElse (s .reply) (from (s .next)) ≡ findIn (recordsOf ns) level r
-    pub unfound : s .next < length ns → s .reply ≡ Nothing
+    pub unfound : s .next < length ns → (gap : ℕ) × (s .reply ≡ Nothing gap) × Past xs level r (s .next) gap
+    pub over : length ns ≤ s .next → s .reply ≡ findIn xs level r
+
+  -- past the records before number k, of which there may be none
+  onward-past : (k gap : ℕ) → Past xs level r k gap → Onward (record { next = k; reply = Nothing gap })
+  onward-past k gap p = record { unfound = λ h. (gap, refl, p); over = λ h. past-end xs level r k gap p (omega (arith, length-map ns recordOf)) }
 
   pub onward-begun : Onward begun
-  onward-begun = record { comes = refl; unfound = λ h. refl }
+  onward-begun = onward-past 0 0 (past-start xs level r)
 
   module _ (s : Search) (n : Node) (inside : s .next < length ns) where
+    abbrev node : Node
+    node = getD ns (s .next) n
+
     abbrev here : Bool
-    here = holds (recordOf (getD ns (s .next) n)) level r
+    here = holds (recordOf node) level r
 
-    abbrev turn : Bool → Found
-    turn b = orElse (foundIf b (s .next)) (from (suc (s .next)))
+    abbrev bit : ℕ
+    bit = bitOf (liesBefore (recordOf node) level r)
 
-    -- what is found from the next record on is that record, or what is found behind it
-    from-next : from (s .next) ≡ turn here
-    from-next =
-        rw (List·getD-map recordOf ns (s .next) n) at
-        (find-step (s .next) (recordsOf ns) (recordOf n) level r (omega (arith, length-map ns recordOf)))
+    in-records : s .next < length xs
+    in-records = omega (arith, length-map ns recordOf)
 
-    onward-moved : (b : Bool) → here ≡ b → Onward s → Onward (moved b s (length ns))
-    onward-moved b e w = go b (ap (orElse (s .reply)) (sym (from-next ∙ ap turn e)) ∙ w .comes)
-      where
-        go : (b : Bool) → orElse (s .reply) (turn b) ≡ findIn (recordsOf ns) level r → Onward (moved b s (length ns))
-        go true h =
-            record {
-              comes = sym (ap (λ (f : Found). orElse f (turn true)) (w .unfound inside)) ∙ h;
-              unfound = λ l. absurd (omega (arith, l));
-            }
-        go false h = record { comes = rw add-one h; unfound = λ l. w .unfound inside }
+    -- the next record is that of the next node
+    same : getD xs (s .next) (recordOf n) ≡ recordOf node
+    same = List·getD-map recordOf ns (s .next) n
 
-    pub onward-stepped : Onward s → Onward (stepped s (getD ns (s .next) n) (length ns) level r)
+    onward-moved : (b : Bool) → here ≡ b → Onward s → Onward (moved b s bit (length ns))
+    onward-moved true e w =
+        let u = w .unfound inside in
+        record {
+          unfound = λ l. absurd (omega (arith, l));
+          over = λ l. past-hit xs level r (s .next) (u .0) (u .2) (recordOf n) in-records (rw same e);
+        }
+    onward-moved false e w =
+        let u = w .unfound inside in
+        rw (u .1) (onward-past (s .next + 1) (u .0 + bit) (rw same at (past-miss xs level r (s .next) (u .0) (u .2) (recordOf n) in-records (rw same e))))
+
+    pub onward-stepped : Onward s → Onward (stepped s node (length ns) level r)
     onward-stepped w = onward-moved here refl w
 
-    nearer-moved : (b : Bool) → length ns - moved b s (length ns) .next < length ns - s .next
+    nearer-moved : (b : Bool) → length ns - moved b s bit (length ns) .next < length ns - s .next
     nearer-moved true = omega arith
     nearer-moved false = omega arith
 
-    pub nearer : length ns - stepped s (getD ns (s .next) n) (length ns) level r .next < length ns - s .next
+    pub nearer : length ns - stepped s node (length ns) level r .next < length ns - s .next
     nearer = nearer-moved here
 
-  or-nothing : (f : Found) → orElse f Nothing ≡ f
-  or-nothing (At k) = refl
-  or-nothing Nothing = refl
-
-  -- where no record is next, the reply so far is the reply
-  pub onward-over : (s : Search) → length ns ≤ s .next → Onward s → s .reply ≡ findIn (recordsOf ns) level r
-  unfolding findFrom
-  onward-over s over w =
-      let past : length (recordsOf ns) ≤ s .next = omega (arith, length-map ns recordOf) in
-      sym (ap (λ (xs : List Record). orElse (s .reply) (findFrom (s .next) xs level r)) (drop-of-length-le (recordsOf ns) past) ∙ or-nothing (s .reply)) ∙ w .comes
+    pub onward-fits : Onward s → gapOf (s .reply) ≤ s .next
+    onward-fits w = let u = w .unfound inside in rw (u .1) (past-within xs level r (s .next) (u .0) (u .2) (omega (arith, in-records)))

@@ -3,10 +3,10 @@ use table::Found;
 use word::NodeNumber;
 use word::Remainder;
 ghost use mathlib.Core.Path.{_≡_};
-ghost use Prim.Native.Nat.{_<_};
+ghost use Prim.Native.Nat.{_+_, _≤_, _<_};
 ghost use Rattle.table.specs.Find.{findIn};
 ghost use Rattle.nodes.specs.Nodes.{recordsOf};
-ghost use Rattle.nodes.specs.Search.{stepped};
+ghost use Rattle.nodes.specs.Search.{gapOf, counted, stepped};
 
 // A node's record: its level, the lower and the upper end of its label, and the place of its first child in the edge list.
 #[repr(C)]
@@ -23,9 +23,20 @@ struct Search {
     reply: Found,
 }
 
+// The reply so far after a record that does not hold the remainder: its gap grows by 1 where the record lies before, by 0 where not.
+fn count_in(f: Found, before: usize) -> Found
+    requires { ⌜ gapOf f + before < 18446744073709551616 ⌝ }
+    ensures { λ g. ⌜ g ≡ counted f before ⌝ }
+{
+    match f {
+        Found::At(k) => Found::At(k),
+        Found::Nothing(gap) => Found::Nothing(gap + before),
+    }
+}
+
 // The search after its next record, n, of count: a hit leaves no record to read.
 fn step(s: Search, n: Node, count: usize, level: u32, r: Remainder) -> Search
-    requires { ⌜ s .next < count ⌝ }
+    requires { ⌜ (s .next < count) × (gapOf (s .reply) ≤ s .next) ⌝ }
     ensures { λ t. ⌜ t ≡ stepped s n count level (r .0) ⌝ }
 {
     let k = s.next;
@@ -35,21 +46,21 @@ fn step(s: Search, n: Node, count: usize, level: u32, r: Remainder) -> Search
             reply: Found::At(NodeNumber(k)),
         };
     }
-    let next = k + 1;
-    let reply = s.reply;
+    let so_far = s.reply;
+    let reply = count_in(so_far, table::lies_before(n.level, n.upper, level, r));
     Search {
-        next: next,
+        next: k + 1,
         reply: reply,
     }
 }
 
-// The first record of the level whose label holds the remainder.
+// The first record of the level whose label holds the remainder, or the gap, counted over all records.
 pub fn find(nodes: &[Node], level: u32, r: Remainder) -> Found
     ensures { λ f. ⌜ f ≡ findIn (recordsOf (now (nodes .entry))) level (r .0) ⌝ }
 {
     let mut s = Search {
         next: 0,
-        reply: Found::Nothing,
+        reply: Found::Nothing(0),
     };
     while s.next < nodes.len() {
         s = step(s, nodes[s.next], nodes.len(), level, r);

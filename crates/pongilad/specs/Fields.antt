@@ -20,10 +20,10 @@ use Rattle.pongilad.specs.declared.TestedReply.{TestedReply}
 abbrev pub encodedFields : Encoded → EncodedReply
 encodedFields x = let v : Values = valuesOf x in record { number = v .number; place = v .place; nodes = v .nodes; edges = v .edges; words = v .words }
 
--- 1 and the record's number; where there is none, 0 and 0.
+-- 1 and the record's number; where there is none, 0 and the gap.
 abbrev pub foundFields : Found → FoundReply
 foundFields (At k) = record { found = 1; number = k .0 }
-foundFields Nothing = record { found = 0; number = 0 }
+foundFields (Nothing gap) = record { found = 0; number = gap }
 
 -- All true is 0 with number and place 0; a clause without a true literal is 1, its number and the place of its first word; a refusal is 2, its number and place.
 abbrev pub testedFields : Tested → TestedReply

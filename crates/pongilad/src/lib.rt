@@ -22,7 +22,7 @@ pub struct EncodedReply {
     pub words: u64,
 }
 
-// The finder's reply: found is 1 and number a record's, or both are 0.
+// The finder's reply: found is 1 and number a record's, or found is 0 and number the gap.
 #[repr(C)]
 pub struct FoundReply {
     pub found: u64,
@@ -68,9 +68,9 @@ fn found_reply(x: Found) -> FoundReply
             found: 1,
             number: k.0 as u64,
         },
-        Found::Nothing => FoundReply {
+        Found::Nothing(gap) => FoundReply {
             found: 0,
-            number: 0,
+            number: gap as u64,
         },
     }
 }

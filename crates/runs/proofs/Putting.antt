@@ -7,7 +7,8 @@ use lib.ListN.{length, take, drop, length-drop, drop-of-length-le}
 use lib.Seq.{take-at, take-all, drop-at, length-take-le}
 use borrow.Rule.Slice.PartMut.{putMid, same-len-mid}
 use Rattle.word.specs.Record.{Record, records}
-use Rattle.table.specs.Order.{used, Placed, insertAt}
+use Rattle.table.specs.Find.{gapIn}
+use Rattle.table.specs.Order.{used, insertAt}
 use Rattle.table.proofs.Flat.{recordOf, records-length, records-take, records-drop, records-append}
 use Rattle.runs.specs.Runs.{run, PutIn}
 
@@ -37,22 +38,21 @@ module _ (t : List ℕ) (m count : ℕ) (mid : m ≤ count) (room : count * 4 + 
       ∙ records-append m (take (m * 4) t) ys (length-take-le (m * 4) t (omega arith))
       ∙ ap (λ (q : List Record). q ++ records ys) (records-take m t)
 
-  pub put-in : (level r lower upper p : ℕ) (ys : List ℕ) → Placed (used tail (count - m)) level r p
+  pub put-in : (level r lower upper p : ℕ) (ys : List ℕ) → p ≡ gapIn (used tail (count - m)) level r
       → used ys (count - m + 1) ≡ insertAt p (recordOf level lower upper 0) (used tail (count - m))
       → length ys ≡ length tail
       → PutIn t m count level r lower upper (changed ys)
-  put-in level r lower upper p ys placed put long =
+  put-in level r lower upper p ys is put long =
       let first : length (take m (records t)) ≡ m = length-take-le m (records t) (omega (arith, records-length t)) in
       let n : count + 1 - m ≡ count - m + 1 = omega arith in
       record {
-        p = p;
-        placed = rw tail-used at placed;
         main = ap (take m) (changed-records ys) ∙ take-at (take m (records t)) (records ys) m first;
         pending =
             ap (λ (q : List Record). take (count + 1 - m) (drop m q)) (changed-records ys)
             ∙ ap (take (count + 1 - m)) (drop-at (take m (records t)) (records ys) m first)
             ∙ ap (λ (k : ℕ). used ys k) n
             ∙ put
-            ∙ ap (insertAt p (recordOf level lower upper 0)) tail-used;
+            ∙ ap (λ (k : ℕ). insertAt k (recordOf level lower upper 0) (used tail (count - m))) is
+            ∙ ap (λ (xs : List Record). insertAt (gapIn xs level r) (recordOf level lower upper 0) xs) tail-used;
         long = same-len-mid (m * 4) (length t - m * 4) t ys long;
       }

@@ -8,7 +8,8 @@ use Prim.Native.Nat.{ℕ, zero, suc, _+_, _-_, _*_, _≤_}
 use lib.Dec.{ltb}
 use lib.ListN.{length, take, drop, getD}
 use Rattle.word.specs.Record.{Record, records, noRecord}
-use Rattle.table.specs.Order.{used, key, Before, Among, Sorted, Placed, insertAt}
+use Rattle.table.specs.Find.{gapIn}
+use Rattle.table.specs.Order.{used, key, Before, Among, Sorted, insertAt}
 
 -- The second run: the records from m up to count.
 abbrev pub run : List ℕ → ℕ → ℕ → List Record
@@ -58,10 +59,8 @@ pub record Settled (t : List ℕ) (m count w : ℕ) (t′ : List ℕ) (k : ℕ) 
   pub long : length t′ ≡ length t
   pub way : ((k ≡ m) × (t′ ≡ t)) ⊎ ((k ≡ count) × Merged t m count t′)
 
--- A record was put into the second run, at the place of the remainder r.
+-- A record was put into the second run, at the gap of the remainder r.
 pub record PutIn (t : List ℕ) (m count level r lower upper : ℕ) (t′ : List ℕ) : Type 0 where
-  pub p : ℕ
-  pub placed : Placed (run t m count) level r p
   pub main : used t′ m ≡ used t m
-  pub pending : run t′ m (count + 1) ≡ insertAt p (record { level = level; lower = lower; upper = upper; first = 0 }) (run t m count)
+  pub pending : run t′ m (count + 1) ≡ insertAt (gapIn (run t m count) level r) (record { level = level; lower = lower; upper = upper; first = 0 }) (run t m count)
   pub long : length t′ ≡ length t

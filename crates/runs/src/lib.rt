@@ -13,7 +13,7 @@ use word::Remainder;
 ghost use mathlib.Core.Path.{_≡_};
 ghost use Prim.Native.Nat.{_+_, _*_, _/_, _≤_, min};
 ghost use lib.ListN.{length};
-ghost use Rattle.table.specs.Order.{used, Sorted};
+ghost use Rattle.table.specs.Order.{used, Sorted, Missing};
 ghost use Rattle.table.specs.Find.{findIn};
 ghost use Rattle.runs.specs.Runs.{run, Merged, Settled, PutIn};
 
@@ -28,7 +28,7 @@ pub fn prepare(work: &mut [u32], rests: &[u32])
 }
 
 // The finder's reply on the first `count` records: those of the first run, near where the lent words guess, then those of the second. Where no record holds the
-// remainder, its place in the second run is noted for `put`, as a guess.
+// remainder, the gap in the second run is noted for `put`, as a guess.
 pub fn find(
     table: &[u32],
     work: &[u32],
@@ -42,16 +42,24 @@ pub fn find(
     ensures { λ f. ⌜ f ≡ findIn (used (now (table .entry)) count) level (r .0) ⌝ }
 {
     let g = index::guess(table, work, main, level, r);
-    let Found::At(k) = ordered::find_near(table, main, g, level, r) else {
-        let b = main * RECORD;
-        let e = count * RECORD;
-        let Found::At(q) = ordered::find_sorted(&table[b..e], count - main, near, level, r) else {
-            return Found::Nothing;
-        };
-        let n = main + q.0;
-        return Found::At(NodeNumber(n));
-    };
-    Found::At(k)
+    match ordered::find_near(table, main, g, level, r) {
+        Found::At(k) => Found::At(k),
+        Found::Nothing(first) => {
+            let b = main * RECORD;
+            let e = count * RECORD;
+            match ordered::find_sorted(&table[b..e], count - main, level, r) {
+                Found::At(k) => {
+                    let number = main + k.0;
+                    Found::At(NodeNumber(number))
+                }
+                Found::Nothing(second) => {
+                    *near = second;
+                    let gap = first + second;
+                    Found::Nothing(gap)
+                }
+            }
+        }
+    }
 }
 
 // Merges the two runs into one, by way of the lent words.
@@ -89,7 +97,8 @@ pub fn settle(table: &mut [u32], work: &mut [u32], main: usize, count: usize) ->
     count
 }
 
-// Puts a record with the fourth word 0 into the second run, at the remainder's place, which is looked for at a guess first.
+// Puts a record with the fourth word 0 into the second run, none of whose records holds the remainder, at the gap that the finder replies; `near` is where it
+// looks first. That none holds it is asked for, so the other reply cannot come.
 pub fn put(
     table: &mut [u32],
     main: usize,
@@ -100,11 +109,13 @@ pub fn put(
     lower: u32,
     upper: u32,
 )
-    requires { ⌜ (main ≤ count) × (count * 4 + 4 ≤ length (now table)) × Sorted (run (now table) main count) ⌝ }
+    requires { ⌜ (main ≤ count) × (count * 4 + 4 ≤ length (now table)) × Sorted (run (now table) main count) × Missing (run (now table) main count) level (r .0) ⌝ }
     ensures { λ _. ⌜ PutIn (now (table .entry)) main count level (r .0) lower upper (now (table .exit)) ⌝ }
 {
     let b = main * RECORD;
     let n = count - main;
-    let p = ordered::place_near(&table[b..], n, near, level, r);
-    ordered::insert(&mut table[b..], n, p, level, lower, upper);
+    let Found::Nothing(gap) = ordered::find_near(&table[b..], n, near, level, r) else {
+        return;
+    };
+    ordered::insert(&mut table[b..], n, gap, level, lower, upper);
 }

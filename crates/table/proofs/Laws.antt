@@ -1,50 +1,71 @@
--- THE TURNS OF THE FINDER, as equations between what the definition gives from one record on and from the next. Each drops one record of the list
--- and looks at its test. Assumes nothing.
-use mathlib.Core.Path.{_≡_, sym, ap, _∙_}
+-- THE TURNS OF THE FINDER: what holds before record k, and what its two tests say of the reply, on a list of records and then on the words of a flat table.
+-- Assumes nothing.
+use mathlib.Core.Path.{_≡_, refl, sym, ap, _∙_}
 use mathlib.Core.List.{List}
-use mathlib.Core.Bool.{Bool, true, false}
+use mathlib.Core.Bool.{Bool, true, false, cond}
 use Prim.Native.Nat.{ℕ, suc, _+_, _*_, _/_, _≤_, _<_}
 use native.Mathlib.Numerals.{add-one}
 use native.Mathlib.Omega.{arith}
-use lib.ListN.{length, getD, drop, drop-of-length-le}
-use lib.Seq.{drop-cons}
+use lib.ListN.{length, getD, take, drop, drop-of-length-le}
+use lib.Seq.{drop-cons, take-all, length-take-le}
 use Rattle.word.specs.Record.{Record, records}
 use Rattle.table.specs.declared.Found.{Found}
 use Rattle.table.specs.declared.Found.the-variants.{At, Nothing}
-use Rattle.table.specs.Find.{fieldsHold, holds, foundIf, orElse, findFrom, findIn}
+use Rattle.table.specs.Find.{fieldsHold, holds, fieldsBefore, liesBefore, bitOf, gapIn, findFrom, findIn}
 use Rattle.table.proofs.Flat.{recordOf, records-length, record-at}
+use Rattle.table.proofs.Gap.{gap-next, gap-most}
 
-pub find-step : (k : ℕ) (xs : List Record) (x : Record) (wanted r : ℕ) → k < length xs
-    → findFrom k (drop k xs) wanted r ≡ orElse (foundIf (holds (getD xs k x) wanted r) k) (findFrom (suc k) (drop (suc k) xs) wanted r)
-unfolding findFrom
-find-step k xs x wanted r h = ap (λ (l : List Record). findFrom k l wanted r) (drop-cons xs k x h)
+module _ (xs : List Record) (wanted r : ℕ) where
+  -- what is found from record k on
+  abbrev from : ℕ → Found
+  from k = findFrom k (gapIn xs wanted r) (drop k xs) wanted r
 
-module _ (t : List ℕ) (k wanted r : ℕ) where
-  -- No record before record k is the one.
-  abbrev pub Past : Type 0
-  Past = findIn (records t) wanted r ≡ findFrom k (drop k (records t)) wanted r
+  -- No record before record k is the one, and the gap counts those of them that lie before.
+  pub record Past (k gap : ℕ) : Type 0 where
+    pub reply : findIn xs wanted r ≡ from k
+    pub counted : gap ≡ gapIn (take k xs) wanted r
 
-  abbrev here : Bool
-  here = fieldsHold (getD t (k * 4) 0) (getD t (k * 4 + 1) 0) (getD t (k * 4 + 2) 0) wanted r
+  pub past-start : Past 0 0
+  unfolding gapIn
+  past-start = record { reply = refl; counted = refl }
 
-  abbrev turn : Bool → Found
-  turn b = orElse (foundIf b k) (findFrom (suc k) (drop (suc k) (records t)) wanted r)
+  module _ (k gap : ℕ) (p : Past k gap) where
+    pub past-within : k ≤ length xs → gap ≤ k
+    past-within h = let long : length (take k xs) ≡ k = length-take-le k xs h in omega (arith, p .counted, gap-most (take k xs) wanted r)
 
-  step-at : k < length t / 4 → findFrom k (drop k (records t)) wanted r ≡ turn here
-  step-at h =
-      let inside : k < length (records t) = omega (arith, records-length t) in
-      let x : Record = recordOf 0 0 0 0 in
-      rw (record-at t k x inside) at (find-step k (records t) x wanted r inside)
+    pub past-end : length xs ≤ k → Nothing gap ≡ findIn xs wanted r
+    unfolding findFrom
+    past-end h =
+        ap (λ (n : ℕ). Nothing n) (p .counted ∙ ap (λ (l : List Record). gapIn l wanted r) (take-all k xs h))
+        ∙ sym (p .reply ∙ ap (λ (l : List Record). findFrom k (gapIn xs wanted r) l wanted r) (drop-of-length-le xs h))
 
-  pub find-hit : (b : Bool) → k < length t / 4 → Past → b ≡ here → b ≡ true → At (record { 0 = k }) ≡ findIn (records t) wanted r
-  find-hit b h p e f = sym (p ∙ step-at h ∙ ap turn (sym e ∙ f))
+    module _ (x : Record) (inside : k < length xs) where
+      abbrev turn : Bool → Found
+      turn b = cond b (At (record { 0 = k })) (from (suc k))
 
-  pub find-miss : (b : Bool) → k < length t / 4 → Past → b ≡ here → b ≡ false
-      → findIn (records t) wanted r ≡ findFrom (k + 1) (drop (k + 1) (records t)) wanted r
-  find-miss b h p e f = rw add-one (p ∙ step-at h ∙ ap turn (sym e ∙ f))
+      step : findIn xs wanted r ≡ turn (holds (getD xs k x) wanted r)
+      unfolding findFrom
+      step = p .reply ∙ ap (λ (l : List Record). findFrom k (gapIn xs wanted r) l wanted r) (drop-cons xs k x inside)
 
-  pub find-end : length t / 4 ≤ k → Past → Nothing ≡ findIn (records t) wanted r
-  unfolding findFrom
-  find-end h p =
-      let past : length (records t) ≤ k = omega (arith, records-length t) in
-      sym (p ∙ ap (λ (l : List Record). findFrom k l wanted r) (drop-of-length-le (records t) past))
+      pub past-hit : holds (getD xs k x) wanted r ≡ true → At (record { 0 = k }) ≡ findIn xs wanted r
+      past-hit e = sym (step ∙ ap turn e)
+
+      pub past-miss : holds (getD xs k x) wanted r ≡ false → Past (k + 1) (gap + bitOf (liesBefore (getD xs k x) wanted r))
+      past-miss e = rw add-one record { reply = step ∙ ap turn e; counted = omega (arith, p .counted, gap-next xs k x wanted r inside) }
+
+-- The same turns on the words of record k.
+module _ (t : List ℕ) (wanted r k gap : ℕ) (p : Past (records t) wanted r k gap) where
+  pub find-end : length t / 4 ≤ k → Nothing gap ≡ findIn (records t) wanted r
+  find-end h = past-end (records t) wanted r k gap p (omega (arith, records-length t))
+
+  module _ (inside : k < length t / 4) (b : Bool) (e : b ≡ fieldsHold (getD t (k * 4) 0) (getD t (k * 4 + 1) 0) (getD t (k * 4 + 2) 0) wanted r) where
+    here : k < length (records t)
+    here = omega (arith, records-length t)
+
+    pub find-hit : b ≡ true → At (record { 0 = k }) ≡ findIn (records t) wanted r
+    find-hit f = past-hit (records t) wanted r k gap p (recordOf 0 0 0 0) here (rw (record-at t k (recordOf 0 0 0 0) here) (sym e ∙ f))
+
+    pub find-miss : b ≡ false → (c : ℕ) → c ≡ bitOf (fieldsBefore (getD t (k * 4) 0) (getD t (k * 4 + 2) 0) wanted r) → Past (records t) wanted r (k + 1) (gap + c)
+    find-miss f c q =
+        let at = record-at t k (recordOf 0 0 0 0) here in
+        rw q (rw at at (past-miss (records t) wanted r k gap p (recordOf 0 0 0 0) here (rw at (sym e ∙ f))))

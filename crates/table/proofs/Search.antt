@@ -1,6 +1,6 @@
--- THE SEARCH among records in order, by halves or at a guess: the turns that bring the two ends together, and what the place says of the finder's reply. As
--- upper ends are in order, one comparison decides a half, and all before a record; a record of the level that holds the remainder is the only one.
--- Assumes nothing.
+-- THE SEARCH among records in order, by halves or at a guess: the turns that bring the two ends together, that the gap is the place, and what it says of the
+-- finder's reply. As upper ends are in order, one comparison decides a half, and all before a record; a record of the level that holds the remainder is the
+-- only one. Assumes nothing.
 use mathlib.Core.Path.{_≡_, refl, sym, ap, _∙_, subst, subst₂}
 use mathlib.Core.Logic.{_⊎_, inl, inr, ⊎-elim}
 use mathlib.Core.List.{List}
@@ -11,14 +11,15 @@ use native.Mathlib.Numerals.{add-one}
 use native.Mathlib.Omega.{arith}
 use lib.ListN.{length, getD}
 use lib.Dec.{leb, ltb}
-use borrow.Author.Tests.{ne-eqb, leb-true, ltb-true, ltb-false, lt-ltb}
+use borrow.Author.Tests.{ne-eqb, leb-true, ltb-true, ltb-false, lt-ltb, le-ltb}
 use Rattle.word.specs.Record.{Record, noRecord}
 use Rattle.table.specs.declared.Found.the-variants.{At, Nothing}
-use Rattle.table.specs.Find.{holds, findIn}
-use Rattle.table.specs.Order.{used, key, Before, Sorted, upperKey, lastBelow, lowLevels, Low, hits, bitOf, Placed}
+use Rattle.table.specs.Find.{holds, liesBefore, bitOf, gapIn, findIn}
+use Rattle.table.specs.Order.{used, key, Before, Sorted, upperKey, lastBelow, lowLevels, Low, hits}
 use Rattle.table.proofs.Flat.{used-length, used-at}
 use Rattle.table.proofs.Order.{sorted-at, proper-at, Standing}
-use Rattle.table.proofs.Says.{fields-hold, NoneBefore, find-none, find-first}
+use Rattle.table.proofs.Gap.{bit-most, gap-split, before-key}
+use Rattle.table.proofs.Says.{fields-hold, not-held, NoneBefore, find-none, find-first}
 
 -- The place of x at the level is not before lo and not after hi.
 pub record Bracket (xs : List Record) (level x lo hi : ℕ) : Type 0 where
@@ -80,15 +81,8 @@ bit-law a b h k = go (ltb a b) refl
     go true e = let l = ltb-true a b e in omega arith
     go false e = let l = ltb-false a b e in omega arith
 
-bit-most : (b x y : ℕ) → b ≡ bitOf (ltb x y) → b ≤ 1
-bit-most b x y e = go (ltb x y) e
-  where
-    go : (q : Bool) → b ≡ bitOf q → b ≤ 1
-    go true f = omega arith
-    go false f = omega arith
-
 pub bit-times : (h b x y : ℕ) → b ≡ bitOf (ltb x y) → h * b ≤ h
-bit-times h b x y e = omega (arith, mul-le-mul-left h (bit-most b x y e))
+bit-times h b x y e = rw e (omega (arith, mul-le-mul-left h (bit-most (ltb x y))))
 
 -- A turn without a branch: half of what is left, rounded up, lies before the place, or at most the other half does.
 pub bracket-half : (xs : List Record) → Sorted xs → (level x p left half b : ℕ) → 0 < left → half ≡ left - left / 2 → Bracket xs level x p (p + left)
@@ -121,19 +115,42 @@ bracket-from xs s level x (suc m) count e h =
     let inside : suc m ≤ length xs = leb-true (suc m) (length xs) (both .0) in
     rw (add-one m) at (bracket-up xs s level x 0 count m (bracket-start xs level x count e) zero-le (omega arith) (both .1))
 
-pub bracket-met : (xs : List Record) (level x lo hi : ℕ) → Bracket xs level x lo hi → hi ≤ lo → Placed xs level x lo
-bracket-met xs level x lo hi b h = record {
-  within = omega (arith, b .ends, b .within);
-  before = b .before;
-  after = λ k l m. b .after k (omega arith) m;
-}
+-- The first p records lie wholly before x at the level, and no other does.
+abbrev pub Placed : List Record → ℕ → ℕ → ℕ → Type 0
+Placed xs level x p = Bracket xs level x p p
 
-not-held : (x : Record) (wanted r : ℕ) → (x .level ≡ wanted → x .lower ≤ r → r ≤ x .upper → ⊥) → holds x wanted r ≡ false
-not-held x wanted r never = go (holds x wanted r) refl
+-- Where the ends have met, the place is there.
+bracket-placed : (xs : List Record) (level x lo hi : ℕ) → Bracket xs level x lo hi → hi ≤ lo → Placed xs level x lo
+bracket-placed xs level x lo hi b h = let e : hi ≡ lo = omega (arith, b .ends) in rw e at b
+
+-- Among records in order every remainder has a place.
+place-in : (xs : List Record) → Sorted xs → (level x : ℕ) → (p : ℕ) × Placed xs level x p
+place-in xs s level x = down (length xs) (bracket-start xs level x (length xs) refl)
   where
-    go : (b : Bool) → holds x wanted r ≡ b → b ≡ false
-    go true e = let t = fields-hold (x .level) (x .lower) (x .upper) wanted r .0 e in absurd (never (t .0) (t .1) (t .2))
-    go false e = refl
+    down : (hi : ℕ) → Bracket xs level x 0 hi → (p : ℕ) × Placed xs level x p
+    down zero b = (0, bracket-placed xs level x 0 0 b (omega arith))
+    down (suc m) b = go (ltb (upperKey xs m) (key level x)) refl (λ c. down m c)
+      where
+        go : (q : Bool) → ltb (upperKey xs m) (key level x) ≡ q → (Bracket xs level x 0 m → (p : ℕ) × Placed xs level x p) → (p : ℕ) × Placed xs level x p
+        go true e f = (m + 1, bracket-placed xs level x (m + 1) (suc m) (bracket-up xs s level x 0 (suc m) m b zero-le (omega arith) e) (omega arith))
+        go false e f = f (bracket-down xs s level x 0 (suc m) m b zero-le (omega arith) e)
+
+module _ (xs : List Record) (s : Sorted xs) (level x : ℕ) (small : x < 4294967296) where
+  placed-gap : (p : ℕ) → Placed xs level x p → p ≡ gapIn xs level x
+  placed-gap p pl =
+      sym (gap-split xs p level x (pl .within)
+      (λ k l. let w = pl .within in by-key k (omega arith) ∙ lt-ltb _ _ (pl .before k l))
+      (λ k l m. by-key k m ∙ le-ltb _ _ (pl .after k l m)))
+    where
+      by-key : (k : ℕ) → k < length xs → liesBefore (getD xs k noRecord) level x ≡ ltb (upperKey xs k) (key level x)
+      by-key k h = before-key _ _ level x (proper-at xs s k h .1) small
+
+  -- THE GAP IS THE PLACE.
+  pub gap-placed : Placed xs level x (gapIn xs level x)
+  gap-placed = let q = place-in xs s level x in subst (Placed xs level x) (placed-gap (q .0) (q .1)) (q .1)
+
+  pub bracket-met : (lo hi : ℕ) → Bracket xs level x lo hi → hi ≤ lo → lo ≡ gapIn xs level x
+  bracket-met lo hi b h = placed-gap lo (bracket-placed xs level x lo hi b h)
 
 -- THE FINDER AMONG RECORDS IN ORDER: a record of the level that holds r is the one it finds.
 pub find-there : (xs : List Record) → Sorted xs → (wanted r : ℕ) (x : Record) (at : Standing x xs) → x .level ≡ wanted → x .lower ≤ r → r ≤ x .upper
@@ -141,7 +158,7 @@ pub find-there : (xs : List Record) → Sorted xs → (wanted r : ℕ) (x : Reco
 find-there xs s wanted r x at l a b =
     let z : 0 + at .k ≡ at .k = omega arith in
     let held : holds x wanted r ≡ true = fields-hold (x .level) (x .lower) (x .upper) wanted r .1 (l, a, b) in
-    rw z at (find-first xs 0 (at .k) wanted r (at .within) none (rw (at .here) held))
+    rw z at (find-first xs 0 (gapIn xs wanted r) (at .k) wanted r (at .within) none (rw (at .here) held))
   where
     none : NoneBefore xs (at .k) wanted r
     none j m = not-held (getD xs j noRecord) wanted r
@@ -154,22 +171,25 @@ record-hit xs s wanted r p h e =
     let t = fields-hold (x .level) (x .lower) (x .upper) wanted r .0 e in
     sym (find-there xs s wanted r x (record { k = p; within = h; here = refl }) (t .0) (t .1) (t .2))
 
--- Where the record at the place does not hold it, none does.
-module _ (xs : List Record) (s : Sorted xs) (wanted r p : ℕ) (pl : Placed xs wanted r p) where
-  pub place-miss : (p < length xs → holds (getD xs p noRecord) wanted r ≡ false) → Nothing ≡ findIn xs wanted r
-  place-miss e = sym (find-none xs 0 wanted r none)
-    where
-      after : (i : ℕ) → i < length xs → (p ≡ i) ⊎ (p < i) → holds (getD xs i noRecord) wanted r ≡ false
-      after i l (inl q) = rw q at e l
-      after i l (inr m) = not-held (getD xs i noRecord) wanted r
-          (λ q a b. let h = pl .after p (omega arith) (omega arith) in let o = sorted-at xs s p i m l in omega arith)
+-- Where the record at the gap does not hold it, none does.
+pub gap-miss : (xs : List Record) → Sorted xs → (wanted r p : ℕ) → r < 4294967296 → p ≡ gapIn xs wanted r
+    → (p < length xs → holds (getD xs p noRecord) wanted r ≡ false) → Nothing p ≡ findIn xs wanted r
+gap-miss xs s wanted r p small is e = rw is (sym (find-none xs 0 (gapIn xs wanted r) wanted r none))
+  where
+    pl : Placed xs wanted r p
+    pl = rw is (gap-placed xs s wanted r small)
 
-      decide : (i : ℕ) → i < length xs → (b : Bool) → ltb i p ≡ b → holds (getD xs i noRecord) wanted r ≡ false
-      decide i l true t = not-held (getD xs i noRecord) wanted r (λ q a b. let h = pl .before i (ltb-true i p t) in omega arith)
-      decide i l false t = after i l (eq-or-lt-of-le (ltb-false i p t))
+    after : (i : ℕ) → i < length xs → (p ≡ i) ⊎ (p < i) → holds (getD xs i noRecord) wanted r ≡ false
+    after i l (inl q) = rw q at e l
+    after i l (inr m) = not-held (getD xs i noRecord) wanted r
+        (λ q a b. let h = pl .after p (omega arith) (omega arith) in let o = sorted-at xs s p i m l in omega arith)
 
-      none : NoneBefore xs (length xs) wanted r
-      none i l = decide i l (ltb i p) refl
+    decide : (i : ℕ) → i < length xs → (b : Bool) → ltb i p ≡ b → holds (getD xs i noRecord) wanted r ≡ false
+    decide i l true t = not-held (getD xs i noRecord) wanted r (λ q a b. let h = pl .before i (ltb-true i p t) in omega arith)
+    decide i l false t = after i l (eq-or-lt-of-le (ltb-false i p t))
+
+    none : NoneBefore xs (length xs) wanted r
+    none i l = decide i l (ltb i p) refl
 
 -- What a search compares of record m's words is what the record has.
 module _ (t : List ℕ) (count : ℕ) (room : count * 4 ≤ length t) (m : ℕ) (h : m < count) where

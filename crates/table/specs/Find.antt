@@ -1,8 +1,8 @@
--- THE FINDER'S REPLY: the first record of a level whose label holds a remainder. Assumes nothing.
+-- THE FINDER'S REPLY: the first record of a level whose label holds a remainder, or the gap where there is none. Assumes nothing.
 use mathlib.Core.List.{List, [], _∷_}
-use mathlib.Core.Bool.{Bool, true, false, _&&_}
-use Prim.Native.Nat.{ℕ, suc}
-use lib.Dec.{leb, eqb}
+use mathlib.Core.Bool.{Bool, true, false, _&&_, _||_, cond}
+use Prim.Native.Nat.{ℕ, suc, _+_}
+use lib.Dec.{leb, ltb, eqb}
 use Rattle.word.specs.Record.{Record}
 use Rattle.table.specs.declared.Found.{Found}
 use Rattle.table.specs.declared.Found.the-variants.{At, Nothing}
@@ -15,21 +15,29 @@ fieldsHold level lower upper wanted r = eqb level wanted && (leb lower r && leb 
 abbrev pub holds : Record → ℕ → ℕ → Bool
 holds x wanted r = fieldsHold (x .level) (x .lower) (x .upper) wanted r
 
--- The number k where the test is true.
-abbrev pub foundIf : Bool → ℕ → Found
-foundIf true k = At (record { 0 = k })
-foundIf false k = Nothing
+-- The level is smaller than the wanted one, or it is that one and the upper end is below r.
+abbrev pub fieldsBefore : ℕ → ℕ → ℕ → ℕ → Bool
+fieldsBefore level upper wanted r = ltb level wanted || (eqb level wanted && ltb upper r)
 
--- The first reply that has a number.
-abbrev pub orElse : Found → Found → Found
-orElse (At k) next = At k
-orElse Nothing next = next
+-- A record lies before r at the wanted level. Its lower end is not read.
+abbrev pub liesBefore : Record → ℕ → ℕ → Bool
+liesBefore x wanted r = fieldsBefore (x .level) (x .upper) wanted r
 
--- The number of the first such record, where the list's own first has the number k.
-unfoldable pub findFrom : ℕ → List Record → ℕ → ℕ → Found
-findFrom k [] wanted r = Nothing
-findFrom k (x ∷ xs) wanted r = orElse (foundIf (holds x wanted r) k) (findFrom (suc k) xs wanted r)
+-- A yes as the number 1, a no as 0.
+abbrev pub bitOf : Bool → ℕ
+bitOf true = 1
+bitOf false = 0
 
--- THE REPLY, with records numbered from 0.
+-- THE GAP: how many records lie before r at the wanted level, wherever they stand in the list.
+unfoldable pub gapIn : List Record → ℕ → ℕ → ℕ
+gapIn [] wanted r = 0
+gapIn (x ∷ xs) wanted r = bitOf (liesBefore x wanted r) + gapIn xs wanted r
+
+-- The number of the first record that holds r, where the list's own first has the number k; where none does, nothing, with a gap that is given.
+unfoldable pub findFrom : ℕ → ℕ → List Record → ℕ → ℕ → Found
+findFrom k gap [] wanted r = Nothing gap
+findFrom k gap (x ∷ xs) wanted r = cond (holds x wanted r) (At (record { 0 = k })) (findFrom (suc k) gap xs wanted r)
+
+-- THE REPLY, with records numbered from 0; nothing carries the gap of all records.
 abbrev pub findIn : List Record → ℕ → ℕ → Found
-findIn xs wanted r = findFrom 0 xs wanted r
+findIn xs wanted r = findFrom 0 (gapIn xs wanted r) xs wanted r

@@ -1,8 +1,8 @@
--- RECORDS IN ORDER: by level, then by label, no two labels of a level overlapping; the place of a remainder among them, and putting a record in.
+-- RECORDS IN ORDER: by level, then by label, no two labels of a level overlapping; what a search among them looks at, and putting a record in.
 -- Assumes nothing.
 use Prim.Native.Nat.{ℕ, zero, suc, _+_, _-_, _*_, _≤_, _<_}
 use mathlib.Core.Logic.{_⊎_}
-use mathlib.Core.Bool.{Bool, true, false, _&&_, _||_}
+use mathlib.Core.Bool.{Bool, _&&_, _||_}
 use mathlib.Core.Path.{_≡_}
 use mathlib.Core.List.{List, [], _∷_, _++_}
 use lib.Dec.{eqb, leb, ltb}
@@ -40,15 +40,13 @@ unfoldable pub Sorted : List Record → Type 0
 Sorted [] = Unit
 Sorted (x ∷ xs) = Proper x × All (Before x) xs × Sorted xs
 
+-- No record is of the level and holds r.
+abbrev pub Missing : List Record → ℕ → ℕ → Type 0
+Missing xs level r = (x : Record) → Among x xs → x .level ≡ level → x .lower ≤ r → r ≤ x .upper → ⊥
+
 -- The key of record k's upper end.
 abbrev pub upperKey : List Record → ℕ → ℕ
 upperKey xs k = key (getD xs k noRecord .level) (getD xs k noRecord .upper)
-
--- The first p records lie wholly before x at the level, and no other does.
-pub record Placed (xs : List Record) (level x p : ℕ) : Type 0 where
-  pub within : p ≤ length xs
-  pub before : (k : ℕ) → k < p → upperKey xs k < key level x
-  pub after : (k : ℕ) → p ≤ k → k < length xs → key level x ≤ upperKey xs k
 
 -- Levels are low below this number: then keys differ by less than half of what 64 bits hold.
 abbrev pub lowLevels : ℕ
@@ -60,11 +58,6 @@ Low xs = (k : ℕ) → k < length xs → getD xs k noRecord .level < lowLevels
 -- Record p is there, of the level, and its label holds r.
 abbrev pub hits : List Record → ℕ → ℕ → ℕ → Bool
 hits xs level r p = ltb p (length xs) && holds (getD xs p noRecord) level r
-
--- A yes as the number 1, a no as 0.
-abbrev pub bitOf : Bool → ℕ
-bitOf true = 1
-bitOf false = 0
 
 -- There are n records, and the last of them, where n is not 0, lies wholly before x at the level.
 abbrev pub lastBelow : List Record → ℕ → ℕ → ℕ → Bool

@@ -6,12 +6,13 @@ use word::RECORD;
 use word::Remainder;
 ghost use mathlib.Core.Path.{_≡_};
 ghost use Rattle.word.specs.Record.{records};
-ghost use Rattle.table.specs.Find.{fieldsHold, findIn};
+ghost use Rattle.table.specs.Find.{fieldsHold, fieldsBefore, bitOf, findIn};
 
-// What the finder replies: the number of a record, or that there is none.
+// What the finder replies: the number of a record, or that there is none, with the gap, which counts the records that lie before the remainder. A record does
+// where its level is smaller than the wanted one, or is that one and its upper end is below the remainder.
 pub enum Found {
     At(NodeNumber),
-    Nothing,
+    Nothing(usize),
 }
 
 // Whether a record with these fields is of the wanted level and its label holds the remainder.
@@ -28,18 +29,31 @@ pub fn holds(level: u32, lower: u32, upper: u32, wanted: u32, r: Remainder) -> b
     x <= upper
 }
 
-// The first record of the level whose label holds the remainder.
+// Whether a record with these fields lies before the remainder at the wanted level, as 1 or 0: one comparison of keys tells.
+pub fn lies_before(level: u32, upper: u32, wanted: u32, r: Remainder) -> usize
+    ensures { λ b. ⌜ b ≡ bitOf (fieldsBefore level upper wanted (r .0)) ⌝ }
+{
+    if ordered::below(level, upper, wanted, r) {
+        1
+    } else {
+        0
+    }
+}
+
+// The first record of the level whose label holds the remainder, or the gap, counted over all records.
 pub fn find(table: &[u32], level: u32, r: Remainder) -> Found
     ensures { λ f. ⌜ f ≡ findIn (records (now (table .entry))) level (r .0) ⌝ }
 {
     let n = table.len() / RECORD;
     let mut k = 0;
+    let mut gap = 0;
     while k < n {
         let b = k * RECORD;
         if holds(table[b], table[b + 1], table[b + 2], level, r) {
             return Found::At(NodeNumber(k));
         }
+        gap += lies_before(table[b], table[b + 2], level, r);
         k += 1;
     }
-    Found::Nothing
+    Found::Nothing(gap)
 }

@@ -1,4 +1,4 @@
-// Records in order at the beginning of a flat table: the place of a remainder among them, and putting a record in.
+// Records in order at the beginning of a flat table: the finder among them, where the gap is the remainder's place, and putting a record in.
 use super::Found;
 use super::holds;
 use word::NodeNumber;
@@ -10,8 +10,8 @@ ghost use mathlib.Core.List.{_++_};
 ghost use Prim.Native.Nat.{_+_, _-_, _*_, _≤_, _<_};
 ghost use lib.Dec.{ltb};
 ghost use lib.ListN.{length, take, drop};
-ghost use Rattle.table.specs.Find.{findIn};
-ghost use Rattle.table.specs.Order.{used, key, Sorted, Placed, lastBelow, lowLevels, Low, hits, bitOf, putRecord, insertAt};
+ghost use Rattle.table.specs.Find.{bitOf, gapIn, findIn};
+ghost use Rattle.table.specs.Order.{used, key, Sorted, lastBelow, lowLevels, Low, hits, putRecord, insertAt};
 
 // Levels are low below this number.
 const LOW: u32 = 2147483648;
@@ -27,7 +27,7 @@ pub fn key_of(level: u32, x: u32) -> u64
 }
 
 // Whether a record of this level and upper end lies wholly before the remainder at the wanted level.
-fn below(level: u32, upper: u32, wanted: u32, r: Remainder) -> bool
+pub fn below(level: u32, upper: u32, wanted: u32, r: Remainder) -> bool
     ensures { λ b. ⌜ b ≡ ltb (key level upper) (key wanted (r .0)) ⌝ }
 {
     key_of(level, upper) < key_of(wanted, r.0)
@@ -41,10 +41,10 @@ fn less_bit(a: u64, b: u64) -> usize
     ((b + 9223372036854775807 - a) >> 63) as usize
 }
 
-// The place by halves without branches, where the levels are low.
-fn place_low(table: &[u32], count: usize, level: u32, r: Remainder) -> usize
+// The gap by halves without branches, where the levels are low.
+fn gap_low(table: &[u32], count: usize, level: u32, r: Remainder) -> usize
     requires { ⌜ (count * 4 ≤ length (now table)) × Sorted (used (now table) count) × Low (used (now table) count) × (level < lowLevels) ⌝ }
-    ensures { λ p. ⌜ Placed (used (now (table .entry)) count) level (r .0) p ⌝ }
+    ensures { λ p. ⌜ p ≡ gapIn (used (now (table .entry)) count) level (r .0) ⌝ }
 {
     let mut p = 0;
     let mut left = count;
@@ -57,10 +57,10 @@ fn place_low(table: &[u32], count: usize, level: u32, r: Remainder) -> usize
     p
 }
 
-// The place by halves, whatever the levels are.
-fn place_any(table: &[u32], count: usize, level: u32, r: Remainder) -> usize
+// The gap by halves, whatever the levels are.
+fn gap_any(table: &[u32], count: usize, level: u32, r: Remainder) -> usize
     requires { ⌜ (count * 4 ≤ length (now table)) × Sorted (used (now table) count) ⌝ }
-    ensures { λ p. ⌜ Placed (used (now (table .entry)) count) level (r .0) p ⌝ }
+    ensures { λ p. ⌜ p ≡ gapIn (used (now (table .entry)) count) level (r .0) ⌝ }
 {
     let mut lo = 0;
     let mut hi = count;
@@ -90,15 +90,15 @@ fn low(table: &[u32], count: usize, level: u32) -> bool
     table[(count - 1) * RECORD] < LOW
 }
 
-// How many of the first `count` records, which are in order, lie wholly before the remainder at the level.
-fn place(table: &[u32], count: usize, level: u32, r: Remainder) -> usize
+// The gap among the first `count` records, which are in order: it is the place of the remainder.
+fn gap(table: &[u32], count: usize, level: u32, r: Remainder) -> usize
     requires { ⌜ (count * 4 ≤ length (now table)) × Sorted (used (now table) count) ⌝ }
-    ensures { λ p. ⌜ Placed (used (now (table .entry)) count) level (r .0) p ⌝ }
+    ensures { λ p. ⌜ p ≡ gapIn (used (now (table .entry)) count) level (r .0) ⌝ }
 {
     if low(table, count, level) {
-        return place_low(table, count, level, r);
+        return gap_low(table, count, level, r);
     }
-    place_any(table, count, level, r)
+    gap_any(table, count, level, r)
 }
 
 // Whether there are n records among the first `count`, and the last of them, where n is not 0, lies wholly before the remainder at the level.
@@ -128,21 +128,21 @@ fn hit(table: &[u32], count: usize, p: usize, level: u32, r: Remainder) -> bool
     false
 }
 
-// The finder's reply on the first `count` records, which are in order, from the place of the remainder among them.
+// The finder's reply on the first `count` records, which are in order, from the gap, where a record that holds the remainder would stand.
 fn found_at(table: &[u32], count: usize, p: usize, level: u32, r: Remainder) -> Found
-    requires { ⌜ (count * 4 ≤ length (now table)) × Sorted (used (now table) count) × Placed (used (now table) count) level (r .0) p ⌝ }
+    requires { ⌜ (count * 4 ≤ length (now table)) × Sorted (used (now table) count) × (p ≡ gapIn (used (now table) count) level (r .0)) ⌝ }
     ensures { λ f. ⌜ f ≡ findIn (used (now (table .entry)) count) level (r .0) ⌝ }
 {
     if hit(table, count, p, level, r) {
         return Found::At(NodeNumber(p));
     }
-    Found::Nothing
+    Found::Nothing(p)
 }
 
-// Whether the place of the remainder among the first `count` records is n, as the records on both sides tell.
-fn placed_at(table: &[u32], count: usize, n: usize, level: u32, r: Remainder) -> bool
+// Whether the gap among the first `count` records is n, as the records on both sides tell.
+fn gap_is(table: &[u32], count: usize, n: usize, level: u32, r: Remainder) -> bool
     requires { ⌜ (count * 4 ≤ length (now table)) × Sorted (used (now table) count) ⌝ }
-    ensures { λ b. ⌜ (b ≡ true → Placed (used (now (table .entry)) count) level (r .0) n) ⌝ }
+    ensures { λ b. ⌜ (b ≡ true → n ≡ gapIn (used (now (table .entry)) count) level (r .0)) ⌝ }
 {
     if !last_below(table, count, n, level, r) {
         return false;
@@ -154,34 +154,27 @@ fn placed_at(table: &[u32], count: usize, n: usize, level: u32, r: Remainder) ->
     !below(table[b], table[b + 2], level, r)
 }
 
-// The place of the remainder, whatever the guess is: the guess itself, where the records on both sides tell that it is right.
-pub fn place_near(table: &[u32], count: usize, guess: usize, level: u32, r: Remainder) -> usize
+// The gap, whatever the guess is: the guess itself, where the records on both sides tell that it is right.
+fn gap_near(table: &[u32], count: usize, guess: usize, level: u32, r: Remainder) -> usize
     requires { ⌜ (count * 4 ≤ length (now table)) × Sorted (used (now table) count) ⌝ }
-    ensures { λ p. ⌜ Placed (used (now (table .entry)) count) level (r .0) p ⌝ }
+    ensures { λ p. ⌜ p ≡ gapIn (used (now (table .entry)) count) level (r .0) ⌝ }
 {
-    if placed_at(table, count, guess, level, r) {
+    if gap_is(table, count, guess, level, r) {
         return guess;
     }
-    place(table, count, level, r)
+    gap(table, count, level, r)
 }
 
-// The finder's reply on the first `count` records, which are in order; the cursor moves to the place of the remainder.
-pub fn find_sorted(
-    table: &[u32],
-    count: usize,
-    cursor: &mut usize,
-    level: u32,
-    r: Remainder,
-) -> Found
+// The finder's reply on the first `count` records, which are in order.
+pub fn find_sorted(table: &[u32], count: usize, level: u32, r: Remainder) -> Found
     requires { ⌜ (count * 4 ≤ length (now table)) × Sorted (used (now table) count) ⌝ }
     ensures { λ f. ⌜ f ≡ findIn (used (now (table .entry)) count) level (r .0) ⌝ }
 {
-    let p = place(table, count, level, r);
-    *cursor = p;
+    let p = gap(table, count, level, r);
     found_at(table, count, p, level, r)
 }
 
-// The same reply, whatever the guess is: a record that holds the remainder, and else by way of the place.
+// The same reply, whatever the guess is: a record that holds the remainder, and else by way of the gap.
 pub fn find_near(table: &[u32], count: usize, guess: usize, level: u32, r: Remainder) -> Found
     requires { ⌜ (count * 4 ≤ length (now table)) × Sorted (used (now table) count) ⌝ }
     ensures { λ f. ⌜ f ≡ findIn (used (now (table .entry)) count) level (r .0) ⌝ }
@@ -189,7 +182,7 @@ pub fn find_near(table: &[u32], count: usize, guess: usize, level: u32, r: Remai
     if hit(table, count, guess, level, r) {
         return Found::At(NodeNumber(guess));
     }
-    let p = place_near(table, count, guess, level, r);
+    let p = gap_near(table, count, guess, level, r);
     found_at(table, count, p, level, r)
 }
 
@@ -227,7 +220,7 @@ pub fn pass_few(table: &[u32], count: usize, from: usize, r: Remainder) -> usize
     pass(table, six, 1, r)
 }
 
-// The number past those of the next few records that lie wholly before the remainder at the level. Past the place it is the number itself, so this too is a guess.
+// The number past those of the next few records that lie wholly before the remainder at the level. Past the gap it is the number itself, so this too is a guess.
 fn walk(table: &[u32], count: usize, from: usize, level: u32, r: Remainder) -> usize
     requires { ⌜ count * 4 ≤ length (now table) ⌝ }
 {
@@ -259,12 +252,12 @@ pub fn find_from(table: &[u32], count: usize, cursor: &mut usize, level: u32, r:
         return Found::At(NodeNumber(p));
     }
     let q = walk(table, count, p, level, r);
-    *cursor = place_near(table, count, q, level, r);
+    *cursor = gap_near(table, count, q, level, r);
     found_at(table, count, *cursor, level, r)
 }
 
-// Moves the words from place b up to n, n not included, up by one record.
-fn open_gap(table: &mut [u32], b: usize, n: usize)
+// Makes room for a record at place b: moves the words from there up to n, n not included, up by one record.
+fn make_room(table: &mut [u32], b: usize, n: usize)
     requires { ⌜ (b ≤ n) × (n + 4 ≤ length (now table)) ⌝ }
     ensures { λ _. ⌜ now (table .exit) ≡ take (b + 4) (now (table .entry)) ++ (take (n - b) (drop b (now (table .entry))) ++ drop (n + 4) (now (table .entry))) ⌝ }
 {
@@ -293,6 +286,6 @@ pub fn insert(table: &mut [u32], count: usize, p: usize, level: u32, lower: u32,
     ensures { λ _. ⌜ (used (now (table .exit)) (count + 1) ≡ insertAt p (record { level = level; lower = lower; upper = upper; first = 0 }) (used (now (table .entry)) count))
         × (drop (count * 4 + 4) (now (table .exit)) ≡ drop (count * 4 + 4) (now (table .entry))) ⌝ }
 {
-    open_gap(table, p * RECORD, count * RECORD);
+    make_room(table, p * RECORD, count * RECORD);
     store_record(table, p, level, lower, upper, 0);
 }

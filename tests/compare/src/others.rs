@@ -15,12 +15,13 @@ fn nodes(table: &[u32]) -> Vec<Node> {
 /// The finder on both sides, and ours over the flat table and over its records; true where it finds.
 pub fn find_both(table: &[u32], level: u32, remainder: u32) -> bool {
     let other = reference::find::find(table, level, remainder);
-    let wanted = Found { found: other.is_some() as u64, number: other.unwrap_or(0) };
+    let (Ok(number) | Err(number)) = other;
+    let wanted = Found { found: other.is_ok() as u64, number };
     let ours = [archive::find(table, level, remainder), archive::find_node(&nodes(table), level, remainder)];
     if ours != [wanted; 2] {
         differ("the finder", format!("level {level} remainder {remainder} table {}\narchive {ours:?} reference {wanted:?}", hex(table)));
     }
-    other.is_some()
+    other.is_ok()
 }
 
 /// The finder in both forms, on tables of the encoder and on any words: questions and hits.

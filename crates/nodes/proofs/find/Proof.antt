@@ -50,18 +50,19 @@ use Rattle.word.specs.declared.Remainder.{Remainder}
 use Rattle.word.proofs.Remainder as R
 use Rattle.word.proofs.Remainder.Laws as R′
 use Rattle.table.specs.declared.Found.{Found}
+use Rattle.table.specs.declared.Found.the-variants.{Nothing}
 use Rattle.table.specs.Find.{findIn}
 use Rattle.table.proofs.Found as F
 use Rattle.table.proofs.Found.Laws as F′
 use Rattle.nodes.specs.declared.Node.{Node}
 use Rattle.nodes.specs.declared.Search.{Search}
 use Rattle.nodes.specs.Nodes.{recordsOf}
-use Rattle.nodes.specs.Search.{begun, stepped}
+use Rattle.nodes.specs.Search.{begun, gapOf, stepped}
 use Rattle.nodes.proofs.Node as N
 use Rattle.nodes.proofs.Node.Laws as N′
 use Rattle.nodes.proofs.Search as S
 use Rattle.nodes.proofs.Search.Laws as S′
-use Rattle.nodes.proofs.Onward.{Onward, onward-begun, onward-stepped, nearer, onward-over}
+use Rattle.nodes.proofs.Onward.{Onward, onward-begun, onward-stepped, onward-fits, nearer}
 use Rattle.nodes.proofs.step as step
 use Rattle.nodes.proofs.step.Symbol as step-def
 use Rattle.nodes.proofs.step.Symbol.{name as #nodes·step}
@@ -82,7 +83,7 @@ place-fits i n l r = omega arith
 
 -- the search before the first record has its machine value
 begun-is : Is S.the-row begun (S′.lowered begun ∷ [])
-begun-is = struct.owes S.the-type S′.the-laws begun ((refl, lit< tt), (([], (refl, (tt, (refl, tt)))), tt))
+begun-is = struct.owes S.the-type S′.the-laws begun ((refl, lit< tt), (enum.owes F.the-type F′.the-laws (Nothing 0) ((refl, lit< tt), tt), tt))
 
 -- the reply's machine value is the second part of the search's
 reply-is : (s : Search) → Is S.the-row s (S′.lowered s ∷ []) → Is F.the-row (s .reply) (F′.lowered (s .reply) ∷ [])
@@ -178,8 +179,8 @@ module _ {M : Type 1} (𝓤 : URA M) (H : Heap 𝓤) (A : Atoms 𝓤) (W : Given
   abbrev Ensured : Search → Search → SProp 𝓤
   Ensured s t = ensured 𝓤 H A step.ended (step.clauses 𝓤 H A mem run) tt (values s) tt t
 
-  asked : (s : Search) → s .next < n → ent 𝓤 (⋆ 𝓤 H A (‵ ftrue ∷ ‵ (owns Passed (values s) (passed s)) ∷ [])) (Called 𝓤 H A mem run .pre (to s))
-  asked s inside = qed W (‵ ftrue ∷ ‵ (owns Passed (values s) (passed s)) ∷ []) ∵ says ! inside $ frame ! $ done !
+  asked : (s : Search) → (s .next < n) × (gapOf (s .reply) ≤ s .next) → ent 𝓤 (⋆ 𝓤 H A (‵ ftrue ∷ ‵ (owns Passed (values s) (passed s)) ∷ [])) (Called 𝓤 H A mem run .pre (to s))
+  asked s meets = qed W (‵ ftrue ∷ ‵ (owns Passed (values s) (passed s)) ∷ []) ∵ says ! meets $ frame ! $ done !
 
   -- of what it ensures, the clause alone: it has no `&mut`, so nothing is said of last values
   said : (s t : Search) → ent 𝓤 (Ensured s t) (fact 𝓤 (t ≡ onward s))
@@ -276,7 +277,7 @@ module _ {M : Type 1} (𝓤 : URA M) (H : Heap 𝓤) (A : Atoms 𝓤) (W : Given
         owned ! usize (Is usize) (uint-makes 𝓤 H A W w64) n _ (refl, room .0) $ fjoin ! $
         owned ! N.the-row (Is N.the-row) (struct.makes N.the-type N′.the-plain 𝓤 H A) (node (s .search)) _ g $ fjoin ! $
         owned ! S.the-row (Is S.the-row) (struct.makes S.the-type S′.the-plain 𝓤 H A) (s .search) _ (s .is) $ fjoin ! $
-        nothing ! $ use2 W (raw (Called 𝓤 H A mem run .pre (to (s .search)))) (asked (s .search) inside) $
+        nothing ! $ use2 W (raw (Called 𝓤 H A mem run .pre (to (s .search)))) (asked (s .search) (inside, onward-fits ns level (r .0) (s .search) none inside (s .comes))) $
         calls-at-last ! (fmOf 𝓤 H (W .laws) 𝓣) (Called 𝓤 H A mem run) known (to (s .search))
         (and-then ! (load ! (from ! (stop !)) (look ! 17 refl)) (and-then ! (load ! (from ! (stop !)) (look ! 7 refl))
         (and-then ! (load ! (from ! (stop !)) (look ! 5 refl)) (and-then ! (load ! (from ! (stop !)) (look ! 21 refl))
@@ -304,7 +305,7 @@ module _ {M : Type 1} (𝓤 : URA M) (H : Heap 𝓤) (A : Atoms 𝓤) (W : Given
         forget ! 20 refl $ move ! (20 ∷ 21 ∷ []) $ free1 ! $ move ! (18 ∷ 19 ∷ []) $ free1 ! $ move ! (16 ∷ 17 ∷ []) $ free1 ! $
         move ! (14 ∷ 15 ∷ []) $ free1 ! $ move ! (12 ∷ 13 ∷ []) $ free1 ! $ move ! (10 ∷ 11 ∷ []) $ free1 ! $ move ! (8 ∷ 9 ∷ []) $ free1 ! $
         move ! (6 ∷ 7 ∷ []) $ free1 ! $ move ! (4 ∷ 5 ∷ []) $ free1 ! $ move ! (2 ∷ 3 ∷ []) $ free1 ! $ free1 ! $ free0 ! $
-        by ! (exits (s .search .reply) (onward-over ns level (r .0) (s .search) over (s .comes)) (reply-is (s .search) (s .is)))
+        by ! (exits (s .search .reply) (s .comes .over over) (reply-is (s .search) (s .is)))
 
     turns : (s : Spot) → Sq W (At s) (runs C Λ En body.turn-1 (anyQ (Turned s)))
     unfolding afterTurn
@@ -333,9 +334,10 @@ module _ {M : Type 1} (𝓤 : URA M) (H : Heap 𝓤) (A : Atoms 𝓤) (W : Given
       pass1 ! (init ! 16 refl (tt, record { fits = fits })) $
       pass1 ! (init ! 14 refl (struct.lawful R.the-type R′.the-laws 𝓤 H A W .typed r (R′.lowered r ∷ []) r-is .0)) $ pass0 ! $
       -- _5 = nothing, _4 = the search before the first record
-      assigns ! (agg ! (and-then ! (lit ! tt) (no-more !))) (from ! (stop !)) (init ! 10 refl (tt, (record { fits = lit< tt }, tt))) $
+      assigns ! (agg ! (and-then ! (lit ! tt) (and-then ! (lit ! tt) (no-more !)))) (from ! (stop !))
+      (init ! 10 refl (tt, (record { fits = lit< tt }, (record { fits = lit< tt }, tt)))) $
       assigns ! (agg ! (and-then ! (lit ! tt) (and-then ! (load ! (from ! (stop !)) (look ! 10 refl)) (no-more !)))) (from ! (stop !))
-      (init ! 12 refl (tt, (record { fits = lit< tt }, ((record { fits = lit< tt }, tt), tt)))) $
+      (init ! 12 refl (tt, (record { fits = lit< tt }, ((record { fits = lit< tt }, (record { fits = lit< tt }, tt)), tt)))) $
       -- [what the slice owns; the others'; the token; true; _10; …]
       forget ! 10 refl $ move ! (22 ∷ []) $ split ! $ move ! (24 ∷ []) $ fsplit ! $
       keep ! (4 ∷ 5 ∷ 6 ∷ 7 ∷ 8 ∷ 9 ∷ 10 ∷ 11 ∷ 12 ∷ 13 ∷ 14 ∷ 15 ∷ 16 ∷ 17 ∷ 18 ∷ 19 ∷ 20 ∷ 21 ∷ 22 ∷ 23 ∷ 24 ∷ 25 ∷ 2 ∷ 0 ∷ 1 ∷ []) $

@@ -1,26 +1,47 @@
 -- `nodes::step` meets its contract: either way of the test is that of the definition. Assumes nothing.
+use native.Mathlib.Omega.{arith}
 use borrow.Author.Needs.{needs}
 use mathlib.Core.Path.{sym, ap, _∙_}
 use mathlib.Core.Bool.{Bool}
-use Rattle.nodes.specs.Search.{moved}
+use Prim.Native.Nat.{ℕ, _+_}
+use Rattle.table.specs.declared.Found.{Found}
+use Rattle.table.specs.Find.{liesBefore, bitOf}
+use Rattle.table.proofs.Gap.{bit-most}
+use Rattle.nodes.specs.declared.Node.{Node}
+use Rattle.nodes.specs.Nodes.{recordOf}
+use Rattle.nodes.specs.Search.{counted, moved}
 use Rattle.nodes.proofs.step.Statement.{statement}
 use Rattle.nodes.proofs.step.Tie as tie
+
+-- 1 where the record lies before, and else 0
+abbrev bit : Node → ℕ → ℕ → ℕ
+bit n level r = bitOf (liesBefore (recordOf n) level r)
 
 holds-requires : tie.Need-holds-requires
 holds-requires c κs = search needs
 
 returns : tie.Need-returns
 returns c =
-    ap (λ (b : Bool). moved b (c .before .before .args .s) (c .before .before .args .count))
-    (sym (c .if1 .taken) ∙ c .before .holds .ensures)
+    let a = c .before .before .args in
+    ap (λ (b : Bool). moved b (a .s) (bit (a .n) (a .level) (a .r .0)) (a .count)) (sym (c .if1 .taken) ∙ c .before .holds .ensures)
 
-add-next : tie.Need-add-next
-add-next c = search needs
+lies-before-requires : tie.Need-lies-before-requires
+lies-before-requires c κs = search needs
+
+count-in-requires : tie.Need-count-in-requires
+count-in-requires c κs =
+    let s = c .before .before .before in
+    let a = s .args in
+    omega (arith, s .pre .0, s .pre .1, c .lies-before .ensures, bit-most (liesBefore (recordOf (a .n)) (a .level) (a .r .0)))
+
+add-t12 : tie.Need-add-t12
+add-t12 c = search needs
 
 returns-2 : tie.Need-returns-2
 returns-2 c =
-    ap (λ (b : Bool). moved b (c .before .before .args .s) (c .before .before .args .count))
-    (sym (c .if1 .left) ∙ c .before .holds .ensures)
+    let a = c .before .before .before .before .args in
+    ap (λ (f : Found). record { next = a .s .next + 1; reply = f }) (c .count-in .ensures ∙ ap (counted (a .s .reply)) (c .before .lies-before .ensures))
+    ∙ ap (λ (b : Bool). moved b (a .s) (bit (a .n) (a .level) (a .r .0)) (a .count)) (sym (c .before .before .if1 .left) ∙ c .before .before .before .holds .ensures)
 
 pub step-spec : {M : Type 1} → statement M
-step-spec = tie.close (tie.spec holds-requires returns add-next returns-2)
+step-spec = tie.close (tie.spec holds-requires returns lies-before-requires count-in-requires add-t12 returns-2)

@@ -1,4 +1,4 @@
--- `table::ordered::find_from` meets its contract, by those of the test and of the place, wherever the guesses lie. Assumes nothing.
+-- `table::ordered::find_from` meets its contract, by those of the test and of the gap, wherever the guesses lie. Assumes nothing.
 use mathlib.Core.Path.{sym, _∙_}
 use borrow.Author.Needs.{needs}
 use Rattle.table.proofs.Search.{hits-reply}
@@ -17,8 +17,8 @@ returns c = hits-reply _ (c .before .before .before .before .before .pre .1) _ _
 walk-requires : tie.Need-walk-requires
 walk-requires c κs = search needs
 
-place-near-requires : tie.Need-place-near-requires
-place-near-requires c κs = search needs
+gap-near-requires : tie.Need-gap-near-requires
+gap-near-requires c κs = search needs
 
 found-at-requires : tie.Need-found-at-requires
 found-at-requires c κs = search needs
@@ -34,6 +34,6 @@ find-from-spec =
     hit-requires
     returns
     walk-requires
-    place-near-requires
+    gap-near-requires
     found-at-requires
     returns-2)

@@ -1,4 +1,4 @@
--- `table::ordered::find_near` meets its contract: the record that holds the remainder, or else the reply by way of the place. Assumes nothing.
+-- `table::ordered::find_near` meets its contract: the record that holds the remainder, or else the reply by way of the gap. Assumes nothing.
 use mathlib.Core.Path.{sym, _∙_}
 use borrow.Author.Needs.{needs}
 use Rattle.table.proofs.Search.{hits-reply}
@@ -11,8 +11,8 @@ hit-requires c κs = search needs
 returns : tie.Need-returns
 returns c = let a = c .before .before .before in hits-reply _ (a .pre .1) _ _ (a .args .guess) (sym (c .before .hit .ensures) ∙ c .if1 .taken)
 
-place-near-requires : tie.Need-place-near-requires
-place-near-requires c κs = search needs
+gap-near-requires : tie.Need-gap-near-requires
+gap-near-requires c κs = search needs
 
 found-at-requires : tie.Need-found-at-requires
 found-at-requires c κs = search needs
@@ -26,6 +26,6 @@ find-near-spec =
     (tie.spec
     hit-requires
     returns
-    place-near-requires
+    gap-near-requires
     found-at-requires
     returns-2)

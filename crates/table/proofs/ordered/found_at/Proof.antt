@@ -1,9 +1,9 @@
--- `table::ordered::found_at` meets its contract: the record at the place is the only one that can hold the remainder, and the test decides whether
+-- `table::ordered::found_at` meets its contract: the record at the gap is the only one that can hold the remainder, and the test decides whether
 -- it does. Assumes nothing.
 use mathlib.Core.Path.{sym, _∙_}
 use borrow.Author.Needs.{needs}
 use Rattle.table.specs.Order.{used}
-use Rattle.table.proofs.Search.{hits-reply, hits-not, place-miss}
+use Rattle.table.proofs.Search.{hits-reply, hits-not, gap-miss}
 use Rattle.table.proofs.ordered.found_at.Statement.{statement}
 use Rattle.table.proofs.ordered.found_at.Tie as tie
 
@@ -14,7 +14,7 @@ returns : tie.Need-returns
 returns c = let a = c .before .before .before in hits-reply _ (a .pre .1) _ _ (a .args .p) (sym (c .before .hit .ensures) ∙ c .if1 .taken)
 
 returns-2 : tie.Need-returns-2
-returns-2 c = let a = c .before .before .before in place-miss _ (a .pre .1) _ _ (a .args .p) (a .pre .2) (hits-not (used (a .args .table .now) (a .args .count)) (a .args .level) (a .args .r .0) (a .args .p) (sym (c .before .hit .ensures) ∙ c .if1 .left))
+returns-2 c = let a = c .before .before .before in gap-miss _ (a .pre .1) _ _ (a .args .p) (search needs) (a .pre .2) (hits-not (used (a .args .table .now) (a .args .count)) (a .args .level) (a .args .r .0) (a .args .p) (sym (c .before .hit .ensures) ∙ c .if1 .left))
 
 pub found-at-spec : {M : Type 1} → statement M
 found-at-spec =

@@ -1,22 +1,22 @@
--- `table::ordered::open_gap` meets its contract. The loop's invariant: the words from i up to n are moved. The measure is the number of words left.
+-- `table::ordered::make_room` meets its contract. The loop's invariant: the words from i up to n are moved. The measure is the number of words left.
 -- Assumes nothing.
 use borrow.Author.Needs.{needs}
 use Prim.Native.Nat.{ℕ, _-_, _≤_}
 use native.Mathlib.Omega.{arith}
 use mathlib.Core.Path.{_≡_, refl, ap, _∙_}
 use lib.ListN.{length, length-set}
-use Rattle.table.proofs.Gap.{gap, gap-none, gap-step}
-use Rattle.table.proofs.ordered.open_gap.Statement.{statement}
-use Rattle.table.proofs.ordered.open_gap.Tie as tie
+use Rattle.table.proofs.Insertion.{raised, raised-none, raised-step}
+use Rattle.table.proofs.ordered.make_room.Statement.{statement}
+use Rattle.table.proofs.ordered.make_room.Tie as tie
 
 abbrev Inv-loop : tie.InvT-loop
-Inv-loop table₀ b n i₀ table i = (b ≤ i) × (i ≤ n) × (table ≡ gap table₀ i n) × (length table ≡ length table₀)
+Inv-loop table₀ b n i₀ table i = (b ≤ i) × (i ≤ n) × (table ≡ raised table₀ i n) × (length table ≡ length table₀)
 
 abbrev μ-loop : tie.MeasureT-loop
 μ-loop table₀ b n i₀ table i = i - b
 
 loop-holds : tie.Need-loop-holds Inv-loop μ-loop
-loop-holds c = (search needs, search needs, gap-none (c .args .table .now) (c .args .n), refl)
+loop-holds c = (search needs, search needs, raised-none (c .args .table .now) (c .args .n), refl)
 
 sub-i : tie.Need-sub-i Inv-loop μ-loop
 sub-i c = omega arith
@@ -46,7 +46,7 @@ loop-again c = let t₀ = c .before .before .before .args .table .now in
     let e = c .before .before .loop .inv .2 in (
       search needs,
       search needs,
-      rw e (gap-step t₀ i n (omega arith) (omega arith) (omega arith)),
+      rw e (raised-step t₀ i n (omega arith) (omega arith) (omega arith)),
       simp length-set (c .before .before .loop .inv .3),
     )
 
@@ -55,10 +55,10 @@ same-length c = c .before .loop .inv .3
 
 returns : tie.Need-returns Inv-loop μ-loop
 returns c = let h : c .before .loop .i ≡ c .before .before .args .b = omega arith in
-    c .before .loop .inv .2 ∙ ap (λ (i : ℕ). gap (c .before .before .args .table .now) i (c .before .before .args .n)) h
+    c .before .loop .inv .2 ∙ ap (λ (i : ℕ). raised (c .before .before .args .table .now) i (c .before .before .args .n)) h
 
-pub open-gap-spec : {M : Type 1} → statement M
-open-gap-spec =
+pub make-room-spec : {M : Type 1} → statement M
+make-room-spec =
     tie.close
     (tie.spec
     Inv-loop

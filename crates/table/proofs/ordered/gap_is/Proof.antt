@@ -1,4 +1,4 @@
--- `table::ordered::placed_at` meets its contract: the record before n lies before the remainder, and record n, if there is one, does not. Assumes nothing.
+-- `table::ordered::gap_is` meets its contract: the record before n lies before the remainder, and record n, if there is one, does not. Assumes nothing.
 use mathlib.Core.Path.{sym, _∙_}
 use mathlib.Core.Bool.{true≢false}
 use native.Mathlib.Omega.{arith}
@@ -6,8 +6,8 @@ use borrow.Author.Needs.{needs}
 use borrow.Author.Tests.{not-true, not-false}
 use Rattle.table.proofs.Flat.{used-length}
 use Rattle.table.proofs.Search.{bracket-from, bracket-down, bracket-met, words-below}
-use Rattle.table.proofs.ordered.placed_at.Statement.{statement}
-use Rattle.table.proofs.ordered.placed_at.Tie as tie
+use Rattle.table.proofs.ordered.gap_is.Statement.{statement}
+use Rattle.table.proofs.ordered.gap_is.Tie as tie
 
 last-below-requires : tie.Need-last-below-requires
 last-below-requires c κs = search needs
@@ -19,7 +19,7 @@ returns-2 : tie.Need-returns-2
 returns-2 c e =
     let a = c .before .before .before .before in
     let first = sym (c .before .before .last-below .ensures) ∙ not-false (c .before .before .last-below .result) (c .before .if1 .left) in
-    bracket-met _ _ _ _ _ (bracket-from _ (a .pre .1) _ _ _ _ (sym (used-length _ _ (a .pre .0))) first) (c .if2 .taken)
+    bracket-met _ (a .pre .1) _ _ (search needs) _ _ (bracket-from _ (a .pre .1) _ _ _ _ (sym (used-length _ _ (a .pre .0))) first) (c .if2 .taken)
 
 mul-b : tie.Need-mul-b
 mul-b c = search needs
@@ -47,10 +47,10 @@ returns-3 c e =
     let a = c .before .before .before .before .before .before .before in
     let first = sym (c .before .before .before .before .before .last-below .ensures) ∙ not-false (c .before .before .before .before .before .last-below .result) (c .before .before .before .before .if1 .left) in
     let test = words-below _ _ (a .pre .0) (a .args .n) (omega arith) _ _ _ _ (not-true (c .below .result) e) (c .below .ensures) in
-    bracket-met _ _ _ _ _ (bracket-down _ (a .pre .1) _ _ (a .args .n) (a .args .count) (a .args .n) (bracket-from _ (a .pre .1) _ _ _ _ (sym (used-length _ _ (a .pre .0))) first) (omega arith) (omega arith) test) (omega arith)
+    bracket-met _ (a .pre .1) _ _ (search needs) _ _ (bracket-down _ (a .pre .1) _ _ (a .args .n) (a .args .count) (a .args .n) (bracket-from _ (a .pre .1) _ _ _ _ (sym (used-length _ _ (a .pre .0))) first) (omega arith) (omega arith) test) (omega arith)
 
-pub placed-at-spec : {M : Type 1} → statement M
-placed-at-spec =
+pub gap-is-spec : {M : Type 1} → statement M
+gap-is-spec =
     tie.close
     (tie.spec
     last-below-requires

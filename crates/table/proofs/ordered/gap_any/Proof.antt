@@ -1,4 +1,4 @@
--- `table::ordered::place_any` meets its contract. The loop's invariant: the records before lo lie before the remainder and those from hi on do not. The
+-- `table::ordered::gap_any` meets its contract. The loop's invariant: the records before lo lie before the remainder and those from hi on do not. The
 -- measure is the number of records between. Assumes nothing.
 use borrow.Author.Needs.{needs}
 use Prim.Native.Nat.{ℕ, _+_, _-_, _/_, _≤_, _<_}
@@ -7,8 +7,8 @@ use mathlib.Core.Path.{sym}
 use Rattle.table.specs.Order.{used}
 use Rattle.table.proofs.Flat.{used-length}
 use Rattle.table.proofs.Search.{Bracket, bracket-start, bracket-up, bracket-down, bracket-met, words-below}
-use Rattle.table.proofs.ordered.place_any.Statement.{statement}
-use Rattle.table.proofs.ordered.place_any.Tie as tie
+use Rattle.table.proofs.ordered.gap_any.Statement.{statement}
+use Rattle.table.proofs.ordered.gap_any.Tie as tie
 
 abbrev Inv-loop : tie.InvT-loop
 Inv-loop table count level r lo₀ hi₀ lo hi = Bracket (used table count) level (r .0) lo hi × (hi ≤ count)
@@ -76,10 +76,10 @@ loop-again-2 c =
     (bracket-down _ (a .pre .1) _ _ _ _ m (l .inv .0) low high test, search needs)
 
 returns : tie.Need-returns Inv-loop μ-loop
-returns c = bracket-met _ _ _ _ _ (c .before .loop .inv .0) (c .loop-test .left)
+returns c = let a = c .before .before .before in bracket-met _ (a .pre .1) _ _ (search needs) _ _ (c .before .loop .inv .0) (c .loop-test .left)
 
-pub place-any-spec : {M : Type 1} → statement M
-place-any-spec =
+pub gap-any-spec : {M : Type 1} → statement M
+gap-any-spec =
     tie.close
     (tie.spec
     Inv-loop

@@ -1,4 +1,4 @@
--- `table::ordered::place_low` meets its contract. The loop's invariant: the place is not before p and at most `left` records on; each turn leaves at most half of
+-- `table::ordered::gap_low` meets its contract. The loop's invariant: the gap is at least p and at most `left` more; each turn leaves at most half of
 -- them. Assumes nothing.
 use native.Mathlib.Omega.{arith}
 use Prim.Native.Nat.{ℕ, _+_, _-_, _/_, _≤_}
@@ -7,8 +7,8 @@ use borrow.Author.Needs.{needs}
 use Rattle.table.specs.Order.{used}
 use Rattle.table.proofs.Flat.{used-length}
 use Rattle.table.proofs.Search.{Bracket, bracket-start, bracket-half, bracket-met, bit-times, words-low, words-upper, words-bit}
-use Rattle.table.proofs.ordered.place_low.Statement.{statement}
-use Rattle.table.proofs.ordered.place_low.Tie as tie
+use Rattle.table.proofs.ordered.gap_low.Statement.{statement}
+use Rattle.table.proofs.ordered.gap_low.Tie as tie
 
 abbrev Inv-loop : tie.InvT-loop
 Inv-loop table count level r p₀ left₀ p left = Bracket (used table count) level (r .0) p (p + left) × (p + left ≤ count)
@@ -98,10 +98,10 @@ loop-again c =
     (bracket-half _ (s .pre .1) _ _ (l .p) (l .left) half _ (omega arith) refl (l .inv .0) bit, omega arith)
 
 returns : tie.Need-returns Inv-loop μ-loop
-returns c = let l = c .before .loop in bracket-met _ _ _ _ _ (l .inv .0) (omega arith)
+returns c = let l = c .before .loop in bracket-met _ (c .before .before .before .pre .1) _ _ (search needs) _ _ (l .inv .0) (omega arith)
 
-pub place-low-spec : {M : Type 1} → statement M
-place-low-spec =
+pub gap-low-spec : {M : Type 1} → statement M
+gap-low-spec =
     tie.close
     (tie.spec
     Inv-loop
