@@ -7,12 +7,12 @@ use native.Mathlib.Omega.{arith}
 use lib.ListN.{length, getD, length-map, List·getD-map}
 use Rattle.word.specs.Record.{Record}
 use Rattle.table.specs.declared.Found.the-variants.{Nothing}
-use Rattle.table.specs.Find.{holds, liesBefore, bitOf, findIn}
+use Rattle.table.specs.Find.{holds, findIn}
 use Rattle.table.proofs.Laws.{Past, past-start, past-within, past-end, past-hit, past-miss}
 use Rattle.nodes.specs.declared.Node.{Node}
 use Rattle.nodes.specs.declared.Search.{Search}
 use Rattle.nodes.specs.Nodes.{recordOf, recordsOf}
-use Rattle.nodes.specs.Search.{begun, gapOf, moved, stepped}
+use Rattle.nodes.specs.Search.{begun, gapOf, moved, bit, stepped}
 
 module _ (ns : List Node) (level r : ℕ) where
   abbrev xs : List Record
@@ -38,9 +38,6 @@ module _ (ns : List Node) (level r : ℕ) where
     abbrev here : Bool
     here = holds (recordOf node) level r
 
-    abbrev bit : ℕ
-    bit = bitOf (liesBefore (recordOf node) level r)
-
     in-records : s .next < length xs
     in-records = omega (arith, length-map ns recordOf)
 
@@ -48,7 +45,7 @@ module _ (ns : List Node) (level r : ℕ) where
     same : getD xs (s .next) (recordOf n) ≡ recordOf node
     same = List·getD-map recordOf ns (s .next) n
 
-    onward-moved : (b : Bool) → here ≡ b → Onward s → Onward (moved b s bit (length ns))
+    onward-moved : (b : Bool) → here ≡ b → Onward s → Onward (moved b s (bit node level r) (length ns))
     onward-moved true e w =
         let u = w .unfound inside in
         record {
@@ -57,12 +54,12 @@ module _ (ns : List Node) (level r : ℕ) where
         }
     onward-moved false e w =
         let u = w .unfound inside in
-        rw (u .1) (onward-past (s .next + 1) (u .0 + bit) (rw same at (past-miss xs level r (s .next) (u .0) (u .2) (recordOf n) in-records (rw same e))))
+        rw (u .1) (onward-past (s .next + 1) (u .0 + bit node level r) (rw same at (past-miss xs level r (s .next) (u .0) (u .2) (recordOf n) in-records (rw same e))))
 
     pub onward-stepped : Onward s → Onward (stepped s node (length ns) level r)
     onward-stepped w = onward-moved here refl w
 
-    nearer-moved : (b : Bool) → length ns - moved b s bit (length ns) .next < length ns - s .next
+    nearer-moved : (b : Bool) → length ns - moved b s (bit node level r) (length ns) .next < length ns - s .next
     nearer-moved true = omega arith
     nearer-moved false = omega arith
 

@@ -27,6 +27,10 @@ abbrev pub moved : Bool → Search → ℕ → ℕ → Search
 moved true s b count = record { next = count; reply = At (record { 0 = s .next }) }
 moved false s b count = record { next = s .next + 1; reply = counted (s .reply) b }
 
+-- 1 where the node's record lies before, and else 0.
+abbrev pub bit : Node → ℕ → ℕ → ℕ
+bit n level r = bitOf (liesBefore (recordOf n) level r)
+
 -- The search after record n, its next of count.
 abbrev pub stepped : Search → Node → ℕ → ℕ → ℕ → Search
-stepped s n count level r = moved (holds (recordOf n) level r) s (bitOf (liesBefore (recordOf n) level r)) count
+stepped s n count level r = moved (holds (recordOf n) level r) s (bit n level r) count

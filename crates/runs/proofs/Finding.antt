@@ -1,4 +1,4 @@
--- THE FINDER ON TWO RUNS: its reply on one list behind another is that on the first, else that on the second with the numbers and the gap moved up. By
+-- THE FINDER ON TWO RUNS: its reply on one list behind another is that on the first, else that on the second with its number and its gap moved up. By
 -- induction on the records. Assumes nothing.
 use mathlib.Core.Path.{_≡_, refl, sym, ap, _∙_}
 use mathlib.Core.List.{List, [], _∷_, _++_}
@@ -13,25 +13,8 @@ use Rattle.table.specs.Find.{holds, gapIn, findFrom, findIn}
 use Rattle.table.specs.Order.{used}
 use Rattle.table.proofs.Flat.{used-length}
 use Rattle.table.proofs.Gap.{gap-append}
-use Rattle.table.proofs.Says.{nothing-gap}
 use Rattle.runs.specs.Runs.{run}
 use Rattle.runs.proofs.Views.{both-runs}
-
--- The first reply that has a number, or else the second.
-abbrev orElse : Found → Found → Found
-orElse (At k) next = At k
-orElse (Nothing gap) next = next
-
-find-append : (xs ys : List Record) (k a gap wanted r : ℕ) → findFrom k gap (xs ++ ys) wanted r ≡ orElse (findFrom k a xs wanted r) (findFrom (k + length xs) gap ys wanted r)
-unfolding findFrom
-find-append [] ys k a gap wanted r = let z : k ≡ k + 0 = omega arith in ap (λ (n : ℕ). findFrom n gap ys wanted r) z
-find-append (x ∷ xs) ys k a gap wanted r = go (holds x wanted r) (find-append xs ys (suc k) a gap wanted r)
-  where
-    go : (b : Bool) → findFrom (suc k) gap (xs ++ ys) wanted r ≡ orElse (findFrom (suc k) a xs wanted r) (findFrom (suc k + length xs) gap ys wanted r)
-        → cond b (At (record { 0 = k })) (findFrom (suc k) gap (xs ++ ys) wanted r)
-        ≡ orElse (cond b (At (record { 0 = k })) (findFrom (suc k) a xs wanted r)) (findFrom (k + suc (length xs)) gap ys wanted r)
-    go true h = refl
-    go false h = let z : suc k + length xs ≡ k + suc (length xs) = omega arith in rw z at h
 
 -- The reply with its number moved up by m, its gap by a.
 abbrev movedUp : ℕ → ℕ → Found → Found
@@ -53,29 +36,27 @@ abbrev joined : ℕ → Found → Found → Found
 joined m (At k) g = At k
 joined m (Nothing a) g = movedUp m a g
 
-module _ (xs ys : List Record) (m wanted r : ℕ) (long : length xs ≡ m) where
-  abbrev gap : ℕ
-  gap = gapIn xs wanted r
-
-  behind : findFrom (0 + length xs) (gap + gapIn ys wanted r) ys wanted r ≡ movedUp m gap (findIn ys wanted r)
-  behind =
-      let n : 0 + length xs ≡ m + 0 = omega (arith, long) in
-      ap (λ (k : ℕ). findFrom k (gap + gapIn ys wanted r) ys wanted r) n ∙ find-moved ys m gap 0 (gapIn ys wanted r) wanted r
-
-  find-both : findIn (xs ++ ys) wanted r ≡ orElse (findIn xs wanted r) (movedUp m gap (findIn ys wanted r))
-  find-both =
-      ap (λ (n : ℕ). findFrom 0 n (xs ++ ys) wanted r) (gap-append xs ys wanted r)
-      ∙ find-append xs ys 0 gap (gap + gapIn ys wanted r) wanted r
-      ∙ ap (orElse (findIn xs wanted r)) behind
-
-  joined-is : (f g : Found) → f ≡ findIn xs wanted r → joined m f g ≡ orElse f (movedUp m gap g)
-  joined-is (At k) g e = refl
-  joined-is (Nothing a) g e = ap (λ (n : ℕ). movedUp m n g) (nothing-gap xs wanted r a (sym e))
+find-joined : (xs ys : List Record) (k a b wanted r : ℕ) → findFrom k (a + b) (xs ++ ys) wanted r ≡ joined (k + length xs) (findFrom k a xs wanted r) (findFrom 0 b ys wanted r)
+unfolding findFrom
+find-joined [] ys k a b wanted r = let z : k ≡ k + 0 + 0 = omega arith in ap (λ (n : ℕ). findFrom n (a + b) ys wanted r) z ∙ find-moved ys (k + 0) a 0 b wanted r
+find-joined (x ∷ xs) ys k a b wanted r = go (holds x wanted r) (find-joined xs ys (suc k) a b wanted r)
+  where
+    go : (q : Bool) → findFrom (suc k) (a + b) (xs ++ ys) wanted r ≡ joined (suc k + length xs) (findFrom (suc k) a xs wanted r) (findFrom 0 b ys wanted r)
+        → cond q (At (record { 0 = k })) (findFrom (suc k) (a + b) (xs ++ ys) wanted r)
+        ≡ joined (k + suc (length xs)) (cond q (At (record { 0 = k })) (findFrom (suc k) a xs wanted r)) (findFrom 0 b ys wanted r)
+    go true h = refl
+    go false h = let z : suc k + length xs ≡ k + suc (length xs) = omega arith in rw z at h
 
 -- THE REPLY from those on the two runs.
 pub find-runs : (t : List ℕ) (m count : ℕ) → m ≤ count → count * 4 ≤ length t → (wanted r : ℕ) (f g : Found) → f ≡ findIn (used t m) wanted r → g ≡ findIn (run t m count) wanted r
     → joined m f g ≡ findIn (used t count) wanted r
 find-runs t m count mid room wanted r f g e h =
-    let long : length (used t m) ≡ m = used-length t m (omega arith) in
-    joined-is (used t m) (run t m count) m wanted r long f g e
-    ∙ rw (e, h) (sym (ap (λ (l : List Record). findIn l wanted r) (both-runs t m count mid) ∙ find-both (used t m) (run t m count) m wanted r long))
+    let xs : List Record = used t m in
+    let ys : List Record = run t m count in
+    let n : 0 + length xs ≡ m = omega (arith, used-length t m (omega arith)) in
+    rw (e, h) (sym (
+    ap (λ (l : List Record). findIn l wanted r) (both-runs t m count mid)
+    ∙ ap (λ (gap : ℕ). findFrom 0 gap (xs ++ ys) wanted r) (gap-append xs ys wanted r)
+    ∙ find-joined xs ys 0 (gapIn xs wanted r) (gapIn ys wanted r) wanted r
+    ∙ ap (λ (k : ℕ). joined k (findIn xs wanted r) (findIn ys wanted r)) n
+    ))

@@ -3,19 +3,14 @@ use native.Mathlib.Omega.{arith}
 use borrow.Author.Needs.{needs}
 use mathlib.Core.Path.{sym, ap, _∙_}
 use mathlib.Core.Bool.{Bool}
-use Prim.Native.Nat.{ℕ, _+_}
+use Prim.Native.Nat.{_+_}
 use Rattle.table.specs.declared.Found.{Found}
-use Rattle.table.specs.Find.{liesBefore, bitOf}
+use Rattle.table.specs.Find.{liesBefore}
 use Rattle.table.proofs.Gap.{bit-most}
-use Rattle.nodes.specs.declared.Node.{Node}
 use Rattle.nodes.specs.Nodes.{recordOf}
-use Rattle.nodes.specs.Search.{counted, moved}
+use Rattle.nodes.specs.Search.{counted, moved, bit}
 use Rattle.nodes.proofs.step.Statement.{statement}
 use Rattle.nodes.proofs.step.Tie as tie
-
--- 1 where the record lies before, and else 0
-abbrev bit : Node → ℕ → ℕ → ℕ
-bit n level r = bitOf (liesBefore (recordOf n) level r)
 
 holds-requires : tie.Need-holds-requires
 holds-requires c κs = search needs
