@@ -1,4 +1,5 @@
-/* Pongilad: from one linear constraint to an interval-labelled diagram and the clauses that say the same to a SAT solver.
+/* Pongilad: from one linear constraint to an interval-labelled diagram and the clauses that say the same to a SAT solver, and clauses as DIMACS
+ * text.
  *
  * Link with libpongilad.a (x86-64 Linux). Each call is proved, for every input and every length, to reply and to leave the lent
  * lists as its definition says; the definitions are in crates/pongilad/specs. No call allocates, keeps a pointer or prints.
@@ -25,7 +26,18 @@
  *     clause words      kind 2, a literal: bit 29 negates it, bits 28 to 0 are the Boolean, from 1.
  *                       kind 3 ends a clause: the payload is the number of its literals.
  *
- * REFUSALS, by number. Checks run in this order; 4 and 5 are tried term by term, 11, 12 and 13 word by word, the lower number
+ * DIMACS TEXT, as bytes
+ *   written               `p cnf V C` with V the greatest Boolean of the list (0 where it has none) and C the number of its clauses; then a line a
+ *                         clause: each literal by its Boolean's number, behind a minus sign where it is negated, and a space; a 0; a newline.
+ *   read                  Space, tab, carriage return and newline are blanks; a text may begin and end with them. Only a newline ends a line. Where a
+ *                         line begins with c, all of it is a comment, also inside a clause; the last comment needs no newline.
+ *                         The header is one line: `p`, `cnf` and two numbers, with spaces or tabs between them. The first number, up to
+ *                         536,870,911, is the greatest Boolean allowed; the second, up to 18,446,744,073,709,551,615, the number of clauses.
+ *                         Behind it, each behind a blank, stand literals, with a minus sign right before the number where they are negated, and a 0
+ *                         behind the last literal of each clause. A clause has up to 1,073,741,823 literals. A number has no plus sign, and no 0
+ *                         before other digits.
+ *
+ * REFUSALS, by number. Checks run in this order (pongilad_read: 16 before 15); 4 and 5 are tried term by term, 11, 12 and 13 word by word, the lower number
  * first. Places count from 0.
  *   No.  The call refuses because                                   Place                 Lent lists afterwards
  *    1   there are no constraint words                              0                     as they were
@@ -41,12 +53,20 @@
  *        the limits above this does not arise
  *   10   a value byte is neither 0 nor 1                            the byte              only read
  *   11   a clause word has kind 0 or 1                              the word              only read
- *   12   a literal names Boolean 0 or one that has no value byte    the word              only read
+ *   12   a literal names Boolean 0, or, for pongilad_test, one      the word              only read
+ *        that has no value byte
  *   13   an end word counts other than the literals before it,      the word              only read
  *        back to the end word before or the start
  *   14   the list stops inside a clause: literals stand behind      the list's length     only read
  *        the last end word
- *   1 to 9 come from pongilad_encode, 10 to 14 from pongilad_test. 6, 7 and 8 go by what the finished diagram needs.
+ *   15   the lent text or clause list is too short for the result   0                     all bytes or words are 0
+ *   16   the text is not DIMACS                                     the first byte that   all words are 0
+ *                                                                   cannot stand there;
+ *                                                                   the text's length
+ *                                                                   where a legal text
+ *                                                                   begins with all of it
+ *   1 to 9 come from pongilad_encode, 10 to 14 from pongilad_test, 11 to 15 from pongilad_write, 16 and 15 in this order from pongilad_read.
+ *   6, 7 and 8 go by what the finished diagram needs. pongilad_write zeroes the lent text after 11 to 14 too.
  */
 #ifndef PONGILAD_H
 #define PONGILAD_H
@@ -98,6 +118,14 @@ typedef struct {
     uint64_t verdict, number, place;
 } pongilad_tested;
 
+/* What pongilad_write and pongilad_read reply.
+ *   number  0: done; 11 to 16: the number of the refusal
+ *   place   the place of the refusal; 0 where done
+ *   length  how many bytes of text, or clause words, the lent list holds; 0 where refused */
+typedef struct {
+    uint64_t number, place, length;
+} pongilad_text;
+
 /* Encodes the constraint of the words.
  *   table    a node record is four words: level from 1, lower end and upper end of the label, place of its first edge in the edge
  *            list. Nodes stand by level, then by lower end; a node's number is that of its record, from 0, and node 0 is the root.
@@ -126,6 +154,14 @@ pongilad_found pongilad_find_node(const pongilad_node *nodes, size_t nodes_lengt
 /* Tests the clauses under the values: byte v - 1 is the value of Boolean v, 0 or 1.
  * All bytes and all words are checked before any clause is tested. A clause without literals is counted and passes as true. */
 pongilad_tested pongilad_test(const uint8_t *values, size_t values_length, const uint32_t *clauses, size_t clauses_length);
+
+/* Writes a clause list as DIMACS text, with bytes of 0 behind it up to the end of the lent text. The bytes of 0 are no part of the text: pongilad_read is
+ * lent the length of the reply. The whole list is checked before a byte is written; 11 * clauses_length + 18 bytes are room enough for any list. */
+pongilad_text pongilad_write(const uint32_t *clauses, size_t clauses_length, uint8_t *text, size_t text_length);
+
+/* Reads DIMACS text into a clause list, with words of 0 behind it up to the end of the lent list. Any legal text is read, not only what pongilad_write
+ * writes; every legal list that was written is restored. A text says at most a word for each two bytes. */
+pongilad_text pongilad_read(const uint8_t *text, size_t text_length, uint32_t *clauses, size_t clauses_length);
 
 /* 1 where the bytes are those of the words, most significant byte first, and there are just four for each word; otherwise 0. */
 uint64_t pongilad_compare(const uint8_t *bytes, size_t bytes_length, const uint32_t *words, size_t words_length);

@@ -1,2 +1,3 @@
 pub mod Truth
 pub mod Written
+pub mod Checked

@@ -9,10 +9,10 @@ use borrow.Author.Tests.{eq-eqb, ne-eqb, le-leb, lt-leb}
 use Rattle.word.specs.Word.{kind, payload, boolean, negated, lastBoolean, literalWord, lastCount, endWord}
 use Rattle.clause.specs.Meaning.{Clause, literalOf, joined, clausesOf, wordOf, closed, wordsOf}
 
--- every number fits: Booleans of 29 bits, counts of 30
+-- every number fits: Booleans from 1 on of 29 bits, counts of 30
 abbrev pub LiteralsFit : Clause → Type 0
 LiteralsFit [] = Unit {0}
-LiteralsFit (l ∷ c) = (l .of ≤ lastBoolean) × LiteralsFit c
+LiteralsFit (l ∷ c) = ((1 ≤ l .of) × (l .of ≤ lastBoolean)) × LiteralsFit c
 
 abbrev pub Fit : List Clause → Type 0
 Fit [] = Unit {0}
@@ -56,7 +56,7 @@ read-literal w ws e = rw (ne-eqb (kind w) 3 (λ f. omega arith))
 literals-read : (c d : Clause) (cs : List Clause) (ws : List ℕ) → LiteralsFit c → clausesOf ws ≡ d ∷ cs → clausesOf (closed c ws) ≡ (c ++ d) ∷ cs
 literals-read [] d cs ws h e = e
 literals-read (l ∷ c) d cs ws h e =
-    let t = literal-word (l .says) (l .of) (h .0) in
+    let t = literal-word (l .says) (l .of) (h .0 .1) in
     read-literal (wordOf l) (closed c ws) (t .0) ∙ ap₂ joined (t .1) (literals-read c d cs ws (h .1) e)
 
 append-none : (c : Clause) → c ++ [] ≡ c

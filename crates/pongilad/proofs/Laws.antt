@@ -7,12 +7,15 @@ use Rattle.refusal.specs.Table.{numberOf, placeOf}
 use Rattle.refusal.specs.declared.Refusal.{Refusal}
 use Rattle.tester.specs.declared.Tested.{Tested}
 use Rattle.tester.specs.declared.Tested.the-variants.{Unfit}
+use Rattle.cnf.specs.declared.Converted.{Converted}
+use Rattle.cnf.specs.declared.Converted.the-variants as converted
 use Rattle.encoder.specs.declared.Encoded.{Encoded}
 use Rattle.encoder.specs.declared.Encoded.the-variants.{Refused}
 use Rattle.encoder.specs.Promise.{Promise}
 use Rattle.pongilad.specs.declared.EncodedReply.{EncodedReply}
 use Rattle.pongilad.specs.declared.TestedReply.{TestedReply}
-use Rattle.pongilad.specs.Fields.{encodedFields, testedFields, Encodes}
+use Rattle.pongilad.specs.declared.TextReply.{TextReply}
+use Rattle.pongilad.specs.Fields.{encodedFields, testedFields, textFields, Encodes}
 
 -- The fields of a refused encoding, from the refusal's number and place.
 abbrev pub refusalFields : ℕ → ℕ → EncodedReply
@@ -28,6 +31,13 @@ unfitFields n p = record { verdict = 2; number = n; place = p }
 
 pub unfit-fields : (v : Tested) (x : Refusal) (n p : ℕ) → v ≡ Unfit x → n ≡ numberOf x → p ≡ placeOf x → unfitFields n p ≡ testedFields v
 unfit-fields v x n p is en ep = (λ i. record { verdict = 2; number = en i; place = ep i }) ∙ sym (ap testedFields is)
+
+-- The same for a text that is not written or not read.
+abbrev pub unreadFields : ℕ → ℕ → TextReply
+unreadFields n p = record { number = n; place = p; length = 0 }
+
+pub unread-fields : (v : Converted) (x : Refusal) (n p : ℕ) → v ≡ converted.Refused x → n ≡ numberOf x → p ≡ placeOf x → unreadFields n p ≡ textFields v
+unread-fields v x n p is en ep = (λ i. record { number = en i; place = ep i; length = 0 }) ∙ sym (ap textFields is)
 
 -- The encoding call's promise from the encoder's, which names its own reply.
 pub encodes : (ws t e w t′ e′ w′ : List ℕ) (x : Encoded) (r : EncodedReply) → r ≡ encodedFields x → Promise ws t e w t′ e′ w′ x → Encodes ws t e w t′ e′ w′ r

@@ -9,12 +9,15 @@ use Rattle.table.specs.declared.Found.{Found}
 use Rattle.table.specs.declared.Found.the-variants.{At, Nothing}
 use Rattle.tester.specs.declared.Tested.{Tested}
 use Rattle.tester.specs.declared.Tested.the-variants.{AllTrue, NotTrue, Unfit}
+use Rattle.cnf.specs.declared.Converted.{Converted}
+use Rattle.cnf.specs.declared.Converted.the-variants.{Length, Refused}
 use Rattle.encoder.specs.declared.Encoded.{Encoded}
 use Rattle.encoder.specs.Encoded.{Values, valuesOf, encoded}
 use Rattle.encoder.specs.Promise.{Promise}
 use Rattle.pongilad.specs.declared.EncodedReply.{EncodedReply}
 use Rattle.pongilad.specs.declared.FoundReply.{FoundReply}
 use Rattle.pongilad.specs.declared.TestedReply.{TestedReply}
+use Rattle.pongilad.specs.declared.TextReply.{TextReply}
 
 -- The values of the encoder's reply: number 0 and the counts, or the refusal's number and place with zero counts.
 abbrev pub encodedFields : Encoded → EncodedReply
@@ -36,7 +39,18 @@ abbrev pub comparedField : Bool → ℕ
 comparedField true = 1
 comparedField false = 0
 
+-- Done is 0 with place 0 and the length; a refusal is its number and place, with length 0.
+abbrev pub textFields : Converted → TextReply
+textFields (Length n) = record { number = 0; place = 0; length = n }
+textFields (Refused x) = record { number = numberOf x; place = placeOf x; length = 0 }
+
 -- THE ENCODING CALL: its fields are those of the encoder's reply, and with that reply the three lent lists keep the encoder's promise.
 pub record Encodes (ws t e w : List ℕ) (t′ e′ w′ : List ℕ) (r : EncodedReply) : Type 0 where
   pub fields : r ≡ encodedFields (encoded ws (length t) (length e) (length w))
   pub lists : Promise ws t e w t′ e′ w′ (encoded ws (length t) (length e) (length w))
+
+-- THE CALLS THAT WRITE AND READ TEXT: the fields are those of a reply that keeps the writer's or the reader's promise.
+pub record Converts (Promised : Converted → Type 0) (r : TextReply) : Type 0 where
+  pub reply : Converted
+  pub promise : Promised reply
+  pub fields : r ≡ textFields reply

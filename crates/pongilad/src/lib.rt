@@ -1,4 +1,5 @@
 // The calls of the static library, for C and Rust: each slice is a pointer and a length, each reply a struct of numbers. include/pongilad.h is their C side.
+use cnf::Converted;
 use encoder::Encoded;
 use nodes::Node;
 use table::Found;
@@ -10,7 +11,9 @@ ghost use Rattle.table.specs.Find.{findIn};
 ghost use Rattle.nodes.specs.Nodes.{recordsOf};
 ghost use Rattle.comparer.specs.Bytes.{sameBytes};
 ghost use Rattle.tester.specs.Tested.{tested};
-ghost use Rattle.pongilad.specs.Fields.{encodedFields, foundFields, testedFields, comparedField, Encodes};
+ghost use Rattle.reader.specs.Reads.{Reads};
+ghost use Rattle.writer.specs.Writes.{Writes};
+ghost use Rattle.pongilad.specs.Fields.{encodedFields, foundFields, testedFields, comparedField, textFields, Encodes, Converts};
 
 // The encoder's reply: number 0 and the counts, or a refusal's number and place.
 #[repr(C)]
@@ -35,6 +38,14 @@ pub struct TestedReply {
     pub verdict: u64,
     pub number: u64,
     pub place: u64,
+}
+
+// The reply of the calls that write and read text: number 0 and the result's length, or a refusal's number and place.
+#[repr(C)]
+pub struct TextReply {
+    pub number: u64,
+    pub place: u64,
+    pub length: u64,
 }
 
 // The fields of an encoder's reply.
@@ -98,6 +109,24 @@ fn tested_reply(x: Tested) -> TestedReply
     }
 }
 
+// The fields of the reply of a call that writes or reads text.
+fn text_reply(x: Converted) -> TextReply
+    ensures { λ r. ⌜ r ≡ textFields x ⌝ }
+{
+    match x {
+        Converted::Length(n) => TextReply {
+            number: 0,
+            place: 0,
+            length: n as u64,
+        },
+        Converted::Refused(y) => TextReply {
+            number: y.number() as u64,
+            place: y.place() as u64,
+            length: 0,
+        },
+    }
+}
+
 // The node table, the edge list and the clause list of the constraint that the words state.
 #[no_mangle]
 pub extern "C" fn pongilad_encode(
@@ -149,4 +178,22 @@ pub extern "C" fn pongilad_compare(bytes: &[u8], words: &[u32]) -> u64
     } else {
         0
     }
+}
+
+// The DIMACS text of a clause list, with zeros behind it.
+#[no_mangle]
+pub extern "C" fn pongilad_write(clauses: &[u32], text: &mut [u8]) -> TextReply
+    ensures { λ r. ⌜ Converts (Writes (now (clauses .entry)) (now (text .entry)) (now (text .exit))) r ⌝ }
+{
+    let x = writer::write(clauses, text);
+    text_reply(x)
+}
+
+// The clause list that a DIMACS text says, with zeros behind it.
+#[no_mangle]
+pub extern "C" fn pongilad_read(text: &[u8], clauses: &mut [u32]) -> TextReply
+    ensures { λ r. ⌜ Converts (Reads (now (text .entry)) (now (clauses .entry)) (now (clauses .exit))) r ⌝ }
+{
+    let x = reader::read(text, clauses);
+    text_reply(x)
 }

@@ -1,19 +1,21 @@
--- NO TEXT IS LONGER than 131,072 bytes with the program's room: numbers have at most 8 digits, children at most 10, and a line 36 bytes besides its children.
+-- NO TEXT IS LONGER than its buffer with the program's room: a diagram's has at most 131,072 bytes, as numbers have at most 8 digits, children at most 10, and a
+-- line 36 bytes besides its children; the clauses' has at most 196,608, as a word takes at most 11.
 -- Assumes nothing.
 use mathlib.Core.Path.{_≡_, refl, sym, ap, ap₂, _∙_}
 use mathlib.Core.List.{List, [], _∷_, _++_, map}
 use mathlib.Core.Bool.{Bool, true, false, cond}
-use Prim.Native.Nat.{ℕ, zero, suc, _+_, _*_, _/_, _%_, _≤_, _<_}
+use Prim.Native.Nat.{ℕ, suc, _+_, _*_, _%_, _≤_, _<_}
 use native.Mathlib.Omega.{arith}
 use lib.Dec.{ltb, leb, eqb}
 use lib.ListN.{length, getD, take, drop, length-append, length-map}
 use lib.Seq.{take-all}
-use borrow.Author.Tests.{ltb-true, ltb-false}
+use borrow.Author.Tests.{ltb-false}
 use Rattle.word.specs.Word.{kind, domainEnd, coefficient, lastBoolean}
 use Rattle.word.specs.Edge.{Edge, F, T, to, edgeWord}
+use Rattle.text.specs.Decimal.{decimal}
 use Rattle.refusal.specs.Table.{numberOf, placeOf, andThen, unless}
 use Rattle.refusal.specs.declared.Refusal.{Refusal}
-use Rattle.refusal.specs.declared.Refusal.the-variants.{NoWords, WrongKind, TermCount, DomainEnd, ZeroCoefficient, TooManyNodes, TooManyEdges, TooManyWords, TooManyBooleans, ValueByte, ClauseWord, UnknownBoolean, LiteralCount, OpenClause}
+use Rattle.refusal.specs.declared.Refusal.the-variants.{NoWords, WrongKind, TermCount, DomainEnd, ZeroCoefficient, TooManyNodes, TooManyEdges, TooManyWords, TooManyBooleans, ValueByte, ClauseWord, UnknownBoolean, LiteralCount, OpenClause, NoRoom, NotDimacs}
 use Rattle.refusal.specs.declared.Checked.{Checked}
 use Rattle.refusal.specs.declared.Checked.the-variants as check
 use Rattle.diagram.specs.Table.{Node}
@@ -33,29 +35,18 @@ use Rattle.encoder.specs.declared.Counts.{Counts}
 use Rattle.encoder.specs.declared.Encoded.{Encoded}
 use Rattle.encoder.specs.declared.Encoded.the-variants.{Accepted, Refused}
 use Rattle.encoder.specs.Encoded.{levelsIn, nodesFor, rootFor, capacity, refuseIf, unlessRefused, counted, encoded}
-use Rattle.encoder.proofs.Meant.{plain, edges-length}
+use Rattle.encoder.proofs.Meant.{plain, edges-length, words-length}
 use Rattle.encoder.proofs.Answers.{countsOf}
-use Rattle.printout.specs.Text.{decimal, child, children, nodeLine, nodeLines, countsLine, refusalLine, nodesWord, edgesWord, wordsWord, refusedWord, atWord, newline, field, tooLong, badLength}
-use Rattle.printout.specs.Shown.{wordsIn, replyText, wordsText, shownIn, shown, Shows, ShowsAll}
-use Rattle.printout.proofs.Cuts.{printed-inside, printed-count}
-use Rattle.printout.proofs.Turns.{decimal-one, decimal-more}
-use Rattle.printout.proofs.Input.{words-length}
+use Rattle.printout.specs.Text.{child, children, nodeLine, nodeLines, countsLine, refusalLine, nodesWord, edgesWord, wordsWord, refusedWord, atWord, newline, field, tooLong, badLength}
+use Rattle.printout.specs.Shown.{wordsIn, acceptedText, replyText, clausesFor, wordsText, shownIn, shown, Shows, ShowsAll}
+use Rattle.text.proofs.Cuts.{printed-inside, printed-count}
+use Rattle.text.proofs.Decimals.{digits-few}
+use Rattle.printout.proofs.Input as Input
+use Rattle.writer.proofs.Restored.{written-few}
+use Rattle.printout.specs.declared.Form.{Form}
+use Rattle.printout.specs.declared.Form.the-variants.{Diagram, Clauses}
 
 -- ---- Decimals
-
-abbrev tens : ℕ → ℕ
-tens zero = 1
-tens (suc d) = 10 * tens d
-
-digits-few : (d n : ℕ) → n < tens (suc d) → length (decimal n) ≤ suc d
-digits-few zero n h = omega (arith, ap length (decimal-one n (omega arith)))
-digits-few (suc d) n h = go (ltb n 10) refl (λ m k. digits-few d m k)
-  where
-    go : (b : Bool) → ltb n 10 ≡ b → ((m : ℕ) → m < tens (suc d) → length (decimal m) ≤ suc d) → length (decimal n) ≤ suc (suc d)
-    go true e f = let l = ltb-true n 10 e in omega (arith, ap length (decimal-one n l))
-    go false e f =
-        let l = ltb-false n 10 e in
-        omega (arith, ap length (decimal-more n l), length-append (decimal (n / 10)) ((48 + n % 10) ∷ []), f (n / 10) (omega arith))
 
 eight : (n : ℕ) → n < 100000000 → length (decimal n) ≤ 8
 eight n h = digits-few 7 n h
@@ -131,7 +122,7 @@ counts-few n h k l =
       eight (n .words) l,
     )
 
-number-few : (x : Refusal) → numberOf x ≤ 14
+number-few : (x : Refusal) → numberOf x ≤ 16
 number-few NoWords = omega arith
 number-few (WrongKind at) = omega arith
 number-few (TermCount at) = omega arith
@@ -146,6 +137,8 @@ number-few (ClauseWord at) = omega arith
 number-few (UnknownBoolean at) = omega arith
 number-few (LiteralCount at) = omega arith
 number-few (OpenClause at) = omega arith
+number-few NoRoom = omega arith
+number-few (NotDimacs at) = omega arith
 
 refusal-few : (x : Refusal) → placeOf x < 100000000 → length (refusalLine x) ≤ 29
 refusal-few x h =
@@ -200,11 +193,11 @@ at-checked (w ∷ ws) =
 -- ---- The reply
 
 -- an accepted reply's counts are the diagram's, and find room; a refusal's place is at most n
-abbrev Sized : Constraint → ℕ → ℕ → ℕ → ℕ → Encoded → Type 0
+abbrev pub Sized : Constraint → ℕ → ℕ → ℕ → ℕ → Encoded → Type 0
 Sized c n t e w (Accepted m) = (m ≡ countsOf c) × (length (nodesFor c) ≤ capacity t) × (edgeCount (levelsIn c) (nodesFor c) ≤ e) × (wordCount (levelsIn c) (nodesFor c) ≤ w)
 Sized c n t e w (Refused x) = placeOf x ≤ n
 
-sized-counted : (c : Constraint) (n t e w : ℕ) → Sized c n t e w (counted c t e w)
+pub sized-counted : (c : Constraint) (n t e w : ℕ) → Sized c n t e w (counted c t e w)
 unfolding counted
 sized-counted c n t e w = go (ltb (capacity t) (length (nodesFor c))) refl (ltb e (edgeCount (levelsIn c) (nodesFor c))) refl (ltb w (wordCount (levelsIn c) (nodesFor c))) refl
     (ltb lastBoolean (orders (levelsIn c) + 2 + length (nodesFor c)))
@@ -235,49 +228,68 @@ nodes-short c within few m h =
 
 -- ---- The text
 
-words-fit : (ws : List ℕ) → length ws ≤ 66 → length (wordsText ws 4096 8192 16384) ≤ 131072
-unfolding encoded
-words-fit ws h = go (checked ws) refl (at-checked ws)
-  where
-    reply : (r : Encoded) → checked ws ≡ check.Passed → Sized (stated ws) 66 4096 8192 16384 r → length (replyText r (nodesFor (stated ws))) ≤ 131072
-    reply (Refused x) p s = omega (arith, refusal-few x (omega arith))
-    reply (Accepted m) p s =
-        let c : Constraint = stated ws in
-        let within : Within c = checked-within ws p in
-        let few : length (nodesFor c) ≤ 1024 = omega (arith, s .1) in
-        let wide : length (nodesFor c) ≤ 65536 = omega arith in
-        let n = s .0 in
-        omega (
-          arith,
-          length-append (countsLine m) (nodeLines 0 (nodesFor c)),
-          counts-few m (omega (arith, ap (λ (k : Counts). k .nodes) n)) (omega (arith, ap (λ (k : Counts). k .edges) n, s .2)) (omega (arith, ap (λ (k : Counts). k .words) n, s .3)),
-          lines-few 0 (nodesFor c) (omega arith) (nodes-short c within wide),
-          edges-length c within wide,
-          s .2,
-        )
+-- how long a text may be, in either form
+abbrev pub most : Form → ℕ
+most Diagram = 131072
+most Clauses = 196608
 
-    go : (k : Checked) → checked ws ≡ k → At (length ws) k → length (replyText (unlessRefused k (counted (stated ws) 4096 8192 16384)) (nodesFor (stated ws))) ≤ 131072
+accepted-fit : (f : Form) (c : Constraint) → Within c → (m : Counts) → Sized c 66 4096 8192 16384 (Accepted m)
+    → length (acceptedText f m (nodesFor c) (clausesFor c)) ≤ most f
+accepted-fit Diagram c within m s =
+    let few : length (nodesFor c) ≤ 1024 = omega (arith, s .1) in
+    let wide : length (nodesFor c) ≤ 65536 = omega arith in
+    let n = s .0 in
+    omega (
+      arith,
+      length-append (countsLine m) (nodeLines 0 (nodesFor c)),
+      counts-few m (omega (arith, ap (λ (k : Counts). k .nodes) n)) (omega (arith, ap (λ (k : Counts). k .edges) n, s .2)) (omega (arith, ap (λ (k : Counts). k .words) n, s .3)),
+      lines-few 0 (nodesFor c) (omega arith) (nodes-short c within wide),
+      edges-length c within wide,
+      s .2,
+    )
+accepted-fit Clauses c within m s =
+    let wide : length (nodesFor c) ≤ 65536 = omega (arith, s .1) in
+    omega (arith, written-few (clausesFor c), words-length c within wide, s .3)
+
+words-fit : (f : Form) (ws : List ℕ) → length ws ≤ 66 → length (wordsText f ws 4096 8192 16384) ≤ most f
+unfolding encoded
+words-fit f ws h = go (checked ws) refl (at-checked ws)
+  where
+    line : (g : Form) (x : Refusal) → placeOf x ≤ 66 → length (refusalLine x) ≤ most g
+    line Diagram x k = omega (arith, refusal-few x (omega arith))
+    line Clauses x k = omega (arith, refusal-few x (omega arith))
+
+    reply : (r : Encoded) → checked ws ≡ check.Passed → Sized (stated ws) 66 4096 8192 16384 r → length (replyText f r (nodesFor (stated ws)) (clausesFor (stated ws))) ≤ most f
+    reply (Refused x) p s = line f x s
+    reply (Accepted m) p s = accepted-fit f (stated ws) (checked-within ws p) m s
+
+    go : (k : Checked) → checked ws ≡ k → At (length ws) k
+        → length (replyText f (unlessRefused k (counted (stated ws) 4096 8192 16384)) (nodesFor (stated ws)) (clausesFor (stated ws))) ≤ most f
     go check.Passed e a = reply (counted (stated ws) 4096 8192 16384) e (sized-counted (stated ws) 66 4096 8192 16384)
-    go (check.Refused x) e a = omega (arith, refusal-few x (omega arith))
+    go (check.Refused x) e a = line f x (omega arith)
 
 -- THE BOUND
-pub shown-fits : (bs : List ℕ) → length (shown bs) ≤ 131072
+pub shown-fits : (f : Form) (bs : List ℕ) → length (shown f bs) ≤ most f
 unfolding shownIn
-shown-fits bs = go (ltb 264 (length bs)) refl (eqb (length bs % 4) 0)
+shown-fits f bs = go (ltb 264 (length bs)) refl (eqb (length bs % 4) 0)
   where
-    go : (p : Bool) → ltb 264 (length bs) ≡ p → (q : Bool) → length (cond p tooLong (cond q (wordsText (wordsIn bs) 4096 8192 16384) badLength)) ≤ 131072
-    go true e q = omega arith
-    go false e true = let l = ltb-false 264 (length bs) e in words-fit (wordsIn bs) (omega (arith, words-length bs))
-    go false e false = omega arith
+    short : (g : Form) → 11 ≤ most g
+    short Diagram = omega arith
+    short Clauses = omega arith
+
+    go : (p : Bool) → ltb 264 (length bs) ≡ p → (q : Bool) → length (cond p tooLong (cond q (wordsText f (wordsIn bs) 4096 8192 16384) badLength)) ≤ most f
+    go true e q = omega (arith, short f)
+    go false e true = let l = ltb-false 264 (length bs) e in words-fit f (wordsIn bs) (omega (arith, Input.words-length bs))
+    go false e false = omega (arith, short f)
 
 -- what is printed into that many bytes with that room is the whole text
-pub printed-whole : (bs t e w first t′ e′ w′ out : List ℕ) (r : ℕ) → length t ≡ 4096 → length e ≡ 8192 → length w ≡ 16384 → length first ≡ 131072
-    → Shows bs t e w first t′ e′ w′ out r
-    → ShowsAll bs t e w first t′ e′ w′ out r × ((r ≤ length out) × (r ≡ length (take r out)))
-printed-whole bs t e w first t′ e′ w′ out r a b c n s =
+pub printed-whole : (f : Form) (bs t e w first t′ e′ w′ out : List ℕ) (r : ℕ) → length t ≡ 4096 → length e ≡ 8192 → length w ≡ 16384 → length first ≡ most f
+    → Shows f bs t e w first t′ e′ w′ out r
+    → ShowsAll f bs t e w first t′ e′ w′ out r × ((r ≤ length out) × (r ≡ length (take r out)))
+printed-whole f bs t e w first t′ e′ w′ out r a b c n s =
     let p = s .text in
-    let q : take (length first) (shownIn bs (length t) (length e) (length w)) ≡ shown bs =
-    (λ i. take (length first) (shownIn bs (a i) (b i) (c i))) ∙ take-all (length first) (shown bs) (omega (arith, shown-fits bs)) in (
+    let q : take (length first) (shownIn f bs (length t) (length e) (length w)) ≡ shown f bs =
+    (λ i. take (length first) (shownIn f bs (a i) (b i) (c i))) ∙ take-all (length first) (shown f bs) (omega (arith, shown-fits f bs)) in (
       record { shows = s; reply = p .reply ∙ ap length q; text = p .list ∙ ap₂ (λ (x : List ℕ) (k : ℕ). x ++ drop k first) q (sym (p .reply)) },
       (printed-inside p, printed-count p),
     )

@@ -1,10 +1,10 @@
--- THE REFUSAL TABLE of document 01: the number and the place of each row. Assumes nothing.
+-- THE REFUSAL TABLE of document 01, and of document 02 from 15 on: the number and the place of each row. Assumes nothing.
 use Prim.Native.Nat.{ℕ}
 use mathlib.Core.Bool.{Bool, true, false}
 use Rattle.refusal.specs.declared.Refusal.{Refusal}
 use Rattle.refusal.specs.declared.Checked.{Checked}
 use Rattle.refusal.specs.declared.Checked.the-variants.{Passed, Refused}
-use Rattle.refusal.specs.declared.Refusal.the-variants.{NoWords, WrongKind, TermCount, DomainEnd, ZeroCoefficient, TooManyNodes, TooManyEdges, TooManyWords, TooManyBooleans, ValueByte, ClauseWord, UnknownBoolean, LiteralCount, OpenClause}
+use Rattle.refusal.specs.declared.Refusal.the-variants.{NoWords, WrongKind, TermCount, DomainEnd, ZeroCoefficient, TooManyNodes, TooManyEdges, TooManyWords, TooManyBooleans, ValueByte, ClauseWord, UnknownBoolean, LiteralCount, OpenClause, NoRoom, NotDimacs}
 
 abbrev pub numberOf : Refusal → ℕ
 numberOf NoWords = 1
@@ -21,6 +21,8 @@ numberOf (ClauseWord at) = 11
 numberOf (UnknownBoolean at) = 12
 numberOf (LiteralCount at) = 13
 numberOf (OpenClause at) = 14
+numberOf NoRoom = 15
+numberOf (NotDimacs at) = 16
 
 abbrev pub placeOf : Refusal → ℕ
 placeOf NoWords = 0
@@ -37,6 +39,8 @@ placeOf (ClauseWord at) = at
 placeOf (UnknownBoolean at) = at
 placeOf (LiteralCount at) = at
 placeOf (OpenClause at) = at
+placeOf NoRoom = 0
+placeOf (NotDimacs at) = at
 
 -- Checks run in order: the next is asked where the one before has passed.
 abbrev pub andThen : Checked → Checked → Checked

@@ -18,6 +18,8 @@ pub enum Refusal {
     UnknownBoolean(usize),
     LiteralCount(usize),
     OpenClause(usize),
+    NoRoom,
+    NotDimacs(usize),
 }
 
 // What a check finds: nothing to refuse, or the first refusal.
@@ -46,6 +48,8 @@ impl Refusal {
             Refusal::UnknownBoolean(_) => 12,
             Refusal::LiteralCount(_) => 13,
             Refusal::OpenClause(_) => 14,
+            Refusal::NoRoom => 15,
+            Refusal::NotDimacs(_) => 16,
         }
     }
 
@@ -63,11 +67,13 @@ impl Refusal {
             Refusal::UnknownBoolean(at) => at,
             Refusal::LiteralCount(at) => at,
             Refusal::OpenClause(at) => at,
+            Refusal::NotDimacs(at) => at,
             Refusal::NoWords => 0,
             Refusal::TooManyNodes => 0,
             Refusal::TooManyEdges => 0,
             Refusal::TooManyWords => 0,
             Refusal::TooManyBooleans => 0,
+            Refusal::NoRoom => 0,
         }
     }
 }

@@ -2,11 +2,8 @@
 use libc::STDIN_FILENO;
 use libc::STDOUT_FILENO;
 
-// One byte more than a constraint's words have at most tells that the input is too long.
-const READ: usize = 265;
-
 fn main() {
-    let mut input = [0u8; READ];
+    let mut input = [0u8; printout::READ];
     let got = io::read_full(STDIN_FILENO, &mut input);
     let mut table = [0u32; printout::TABLE];
     let mut edges = [0u32; printout::EDGES];

@@ -4,7 +4,7 @@
 use mathlib.Core.Path.{_≡_, refl, sym, ap, _∙_, subst, subst₂}
 use mathlib.Core.Logic.{_⊎_, inl, inr, ⊎-elim}
 use mathlib.Core.List.{List}
-use mathlib.Core.Bool.{Bool, true, false, _&&_, true≢false}
+use mathlib.Core.Bool.{Bool, true, false}
 use Prim.Native.Nat.{ℕ, zero, suc, _+_, _-_, _*_, _/_, _≤_, _<_, zero-le}
 use native.Mathlib.Nat.{not-suc-le-zero, eq-or-lt-of-le, mul-le-mul-left}
 use native.Mathlib.Numerals.{add-one}
@@ -13,6 +13,7 @@ use lib.ListN.{length, getD}
 use lib.Dec.{leb, ltb}
 use borrow.Author.Tests.{ne-eqb, leb-true, ltb-true, ltb-false, lt-ltb, le-ltb}
 use Rattle.word.specs.Record.{Record, noRecord}
+use Rattle.word.proofs.Tests.{both-true}
 use Rattle.table.specs.declared.Found.the-variants.{At, Nothing}
 use Rattle.table.specs.Find.{holds, liesBefore, bitOf, gapIn, findIn}
 use Rattle.table.specs.Order.{used, key, Before, Sorted, upperKey, lastBelow, lowLevels, Low, hits}
@@ -33,10 +34,6 @@ uppers xs s p q l h = ⊎-elim
     (λ e. subst (λ (n : ℕ). upperKey xs p ≤ upperKey xs n) e (omega arith))
     (λ m. let a = sorted-at xs s p q m h in let b = proper-at xs s q h in omega arith)
     (eq-or-lt-of-le l)
-
-both-true : (a b : Bool) → (a && b) ≡ true → (a ≡ true) × (b ≡ true)
-both-true true b e = (refl, e)
-both-true false b e = absurd (true≢false (sym e))
 
 pub bracket-start : (xs : List Record) (level x n : ℕ) → n ≡ length xs → Bracket xs level x 0 n
 bracket-start xs level x n e = record {

@@ -14,7 +14,8 @@ use Rattle.word.specs.Word.{kind, payload, boolean}
 use Rattle.refusal.specs.declared.Checked.{Checked}
 use Rattle.refusal.specs.declared.Checked.the-variants.{Passed, Refused}
 use Rattle.refusal.specs.declared.Refusal.the-variants.{ValueByte, ClauseWord, UnknownBoolean, LiteralCount, OpenClause}
-use Rattle.tester.specs.Tested.{valuesFrom, listFrom}
+use Rattle.tester.specs.Tested.{valuesFrom}
+use Rattle.clause.specs.Check.{listFrom}
 
 -- The bytes.
 module _ (bs : List ℕ) (at : ℕ) where

@@ -11,7 +11,8 @@ use Rattle.refusal.specs.declared.Refusal.{Refusal}
 use Rattle.refusal.specs.declared.Checked.the-variants.{Passed, Refused}
 use Rattle.clause.specs.Meaning.{Clause, Values, ClauseTrue, clausesOf}
 use Rattle.tester.specs.declared.Tested.the-variants.{AllTrue, NotTrue, Unfit}
-use Rattle.tester.specs.Tested.{valueIn, valuesFrom, listFrom, passedOver, scan, tested}
+use Rattle.tester.specs.Tested.{valueIn, valuesFrom, passedOver, scan, tested}
+use Rattle.clause.specs.Check.{listFrom}
 use Rattle.clause.proofs.Truth.{clause-true}
 
 -- A clause with a literal has a true one.

@@ -1,15 +1,15 @@
 -- THE CLAUSE TESTER'S REPLY to value bytes and a clause list. Assumes nothing.
 use mathlib.Core.List.{List, [], _∷_}
-use mathlib.Core.Bool.{Bool, true, false, cond, _&&_}
+use mathlib.Core.Bool.{Bool, true, false, cond}
 use Prim.Native.Nat.{ℕ, zero, suc, _+_}
 use lib.Dec.{leb, eqb}
 use lib.ListN.{length, getD}
-use Rattle.word.specs.Word.{kind, payload, boolean}
 use Rattle.refusal.specs.Table.{andThen, unless}
 use Rattle.refusal.specs.declared.Checked.{Checked}
 use Rattle.refusal.specs.declared.Checked.the-variants.{Passed, Refused}
-use Rattle.refusal.specs.declared.Refusal.the-variants.{ValueByte, ClauseWord, UnknownBoolean, LiteralCount, OpenClause}
+use Rattle.refusal.specs.declared.Refusal.the-variants.{ValueByte}
 use Rattle.clause.specs.Meaning.{Clause, Values, clausesOf, clauseTrue}
+use Rattle.clause.specs.Check.{listFrom}
 use Rattle.tester.specs.declared.Tested.{Tested}
 use Rattle.tester.specs.declared.Tested.the-variants.{AllTrue, NotTrue, Unfit}
 
@@ -22,14 +22,6 @@ valueIn bs (suc b) = eqb (getD bs b 0) 1
 unfoldable pub valuesFrom : ℕ → List ℕ → Checked
 valuesFrom at [] = Passed
 valuesFrom at (b ∷ bs) = andThen (unless (leb b 1) (ValueByte at)) (valuesFrom (suc at) bs)
-
--- Refusals 11, 12 and 13 word by word, and 14 at the end: n Booleans have values, and k literals stand since the last end word.
-unfoldable pub listFrom : ℕ → ℕ → ℕ → List ℕ → Checked
-listFrom n at k [] = unless (eqb k 0) (OpenClause at)
-listFrom n at k (w ∷ ws) =
-    let end : Checked = andThen (unless (eqb (payload w) k) (LiteralCount at)) (listFrom n (suc at) 0 ws) in
-    let literal : Checked = andThen (unless (leb 1 (boolean w) && leb (boolean w) n) (UnknownBoolean at)) (listFrom n (suc at) (suc k) ws) in
-    cond (eqb (kind w) 3) end (cond (eqb (kind w) 2) literal (Refused (ClauseWord at)))
 
 -- The scan goes past a clause that is empty or has a true literal.
 abbrev pub passedOver : Values → Clause → Bool

@@ -6,7 +6,8 @@ ghost use mathlib.Core.Path.{_≡_};
 ghost use Prim.Native.Nat.{_≤_};
 ghost use lib.ListN.{length, drop};
 ghost use Rattle.clause.specs.Meaning.{literalOf, literalTrue, clausesOf};
-ghost use Rattle.tester.specs.Tested.{valueIn, valuesFrom, listFrom, scan, tested};
+ghost use Rattle.tester.specs.Tested.{valueIn, valuesFrom, scan, tested};
+ghost use Rattle.clause.specs.Check.{listFrom};
 ghost use Rattle.tester.specs.Past.{pastEnd};
 
 // The reply: all clauses are true; the number of the first that is not and the place of its first word; or why the input cannot be tested.

@@ -1,4 +1,6 @@
-//! The calls of include/pongilad.h, for Rust.
+//! The calls of include/pongilad.h, for Rust, and the programs beside them.
+
+pub mod program;
 
 #[repr(C)]
 #[derive(Clone, Copy, Debug, PartialEq, Eq)]
@@ -34,6 +36,14 @@ pub struct Tested {
     pub place: u64,
 }
 
+#[repr(C)]
+#[derive(Clone, Copy, Debug, PartialEq, Eq)]
+pub struct Text {
+    pub number: u64,
+    pub place: u64,
+    pub length: u64,
+}
+
 extern "C" {
     fn pongilad_encode(
         words: *const u32,
@@ -49,6 +59,8 @@ extern "C" {
     fn pongilad_find_node(nodes: *const Node, n: usize, level: u32, remainder: u32) -> Found;
     fn pongilad_test(values: *const u8, v: usize, clauses: *const u32, w: usize) -> Tested;
     fn pongilad_compare(bytes: *const u8, b: usize, words: *const u32, w: usize) -> u64;
+    fn pongilad_write(clauses: *const u32, w: usize, text: *mut u8, t: usize) -> Text;
+    fn pongilad_read(text: *const u8, t: usize, clauses: *mut u32, w: usize) -> Text;
 }
 
 /// The encoder.
@@ -75,4 +87,14 @@ pub fn test(values: &[u8], clauses: &[u32]) -> Tested {
 /// The file comparer.
 pub fn compare(bytes: &[u8], words: &[u32]) -> u64 {
     unsafe { pongilad_compare(bytes.as_ptr(), bytes.len(), words.as_ptr(), words.len()) }
+}
+
+/// The writer of DIMACS text.
+pub fn write(clauses: &[u32], text: &mut [u8]) -> Text {
+    unsafe { pongilad_write(clauses.as_ptr(), clauses.len(), text.as_mut_ptr(), text.len()) }
+}
+
+/// The reader of DIMACS text.
+pub fn read(text: &[u8], clauses: &mut [u32]) -> Text {
+    unsafe { pongilad_read(text.as_ptr(), text.len(), clauses.as_mut_ptr(), clauses.len()) }
 }

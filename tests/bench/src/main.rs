@@ -1,4 +1,6 @@
-//! Times the proved archive against the separately written encoder: the same inputs in the same run, calls in turn, the least time of each.
+//! Times the proved archive against the separately written calls: the same inputs in the same run, calls in turn, the least time of each.
+
+mod text;
 
 use reference::constraint::Constraint;
 use reference::encode::Build;
@@ -76,4 +78,5 @@ fn main() {
     println!("Refused with 6; lists of {room:?} words, zeroed by each call:");
     line("65,537 nodes", &fixed::full_with(2), room);
     line("far more", &fixed::beyond(), room);
+    text::sizes();
 }

@@ -1,4 +1,4 @@
-//! Random constraints, valid and damaged.
+//! Random constraints and clause lists, valid and damaged.
 
 use reference::constraint::{Constraint, Term};
 use reference::random::Random;
@@ -53,5 +53,34 @@ pub fn damage(r: &mut Random, words: &mut Vec<u32>) {
             9 if !words.is_empty() => words[at] = r.word(),
             _ => {}
         }
+    }
+}
+
+/// A random clause list over `n` Booleans.
+pub fn list(r: &mut Random, n: u64) -> Vec<u32> {
+    let mut out = Vec::new();
+    for _ in 0..r.below(7) {
+        let literals = if n == 0 { 0 } else { r.below(5) as u32 };
+        for _ in 0..literals {
+            out.push(2 << 30 | (r.below(2) as u32) << 29 | r.from(1, n as i64) as u32);
+        }
+        out.push(3 << 30 | literals);
+    }
+    out
+}
+
+/// Changes one word or the end of the list.
+pub fn damage_list(r: &mut Random, words: &mut Vec<u32>, n: u64) {
+    let at = r.below(words.len() as u64 + 1) as usize;
+    let sign = (r.below(2) as u32) << 29;
+    match r.below(7) {
+        0 => words.truncate(at),
+        1 => words.insert(at, 2 << 30 | sign),
+        2 => words.insert(at, 2 << 30 | sign | (n + r.below(2)) as u32),
+        3 => words.insert(at, 3 << 30 | r.below(4) as u32),
+        4 => words.insert(at, r.word()),
+        5 => words.insert(at, *r.pick(&[0x1FFF_FFFF | 2 << 30, u32::MAX, 0, 0x7FFF_FFFF, 3 << 30])),
+        _ if at < words.len() => words[at] ^= 1 << r.below(32),
+        _ => {}
     }
 }

@@ -1,11 +1,14 @@
-//! Compares the proved archive and the printing program with the separately written implementation: replies, every lent word, every printed byte. The seed is fixed, so a difference can be met again.
+//! Compares the proved archive and the programs with the separately written implementation: replies, every lent word, every printed byte. The seed is fixed, so a difference can be met again.
 
 mod call;
 mod capacity;
+mod dimacs;
 mod encoder;
 mod exercises;
 mod inputs;
+mod lent;
 mod others;
+mod program;
 mod show;
 
 use reference::random::Random;
@@ -21,11 +24,29 @@ fn report(name: &str, t: &encoder::Tally) {
     println!("{name}: {}, calls: {} (by number, {}), most nodes: {}", t.constraints, t.calls, numbers(&t.numbers), t.nodes);
 }
 
-/// The same from number `k` on.
+/// A line on one kind of call over DIMACS text.
+fn report_text(name: &str, t: &dimacs::Tally) {
+    println!("{name}: {}, calls: {} (by number, {}), refused in the second half: {}", t.inputs, t.calls(), numbers(&t.numbers), t.late);
+}
+
+/// The numbers from `k` on.
 fn numbers_from(tally: &[u64], k: usize) -> String {
     let mut rest = tally.to_vec();
     rest[..k].fill(0);
     numbers(&rest)
+}
+
+/// DIMACS text, written, read and printed.
+fn text(r: &mut Random) {
+    let (legal, refused, lists) = dimacs::cases::all(r);
+    println!("DIMACS by the specification: {legal} legal texts, {refused} refused, {lists} lists");
+    report_text("DIMACS lists written", &dimacs::written(r, 4_000));
+    report_text("DIMACS texts read", &dimacs::read(r, 20_000));
+    report_text("DIMACS texts of larger lists read", &dimacs::larger(r, 40));
+    report_text("DIMACS texts read, every one of a small kind", &dimacs::every(r, 4));
+    println!("places of DIMACS refusals, by their definition: {}", dimacs::places::defined(3));
+    let (shown, refused) = dimacs::program::program(r, 300);
+    println!("DIMACS program: {shown} inputs (refused by number {})", numbers(&refused));
 }
 
 fn main() {
@@ -50,6 +71,7 @@ fn main() {
     );
     let (compared, yes) = others::comparer(&mut r, 2_000);
     println!("file comparer: {compared} calls, {yes} yes");
+    text(&mut r);
     let (shown, refused) = show::program(&mut r, 400);
     println!("printing program: {shown} inputs (refused by number {})", numbers(&refused));
     println!("no difference, {:.1} s", begin.elapsed().as_secs_f64());

@@ -1,7 +1,7 @@
 //! The finder, the clause tester and the file comparer.
 
 use crate::call::{both, differ, hex};
-use crate::inputs::constraint;
+use crate::inputs::{constraint, damage_list, list};
 use archive::{Found, Node, Tested};
 use reference::random::Random;
 use reference::test::Verdict;
@@ -71,35 +71,6 @@ fn test_both(values: &[u8], list: &[u32]) -> usize {
         wanted.number as usize
     } else {
         wanted.verdict as usize
-    }
-}
-
-/// A random clause list over `n` Booleans.
-fn list(r: &mut Random, n: u64) -> Vec<u32> {
-    let mut out = Vec::new();
-    for _ in 0..r.below(7) {
-        let literals = if n == 0 { 0 } else { r.below(5) as u32 };
-        for _ in 0..literals {
-            out.push(2 << 30 | (r.below(2) as u32) << 29 | r.from(1, n as i64) as u32);
-        }
-        out.push(3 << 30 | literals);
-    }
-    out
-}
-
-/// Changes one word or the end of the list.
-fn damage_list(r: &mut Random, words: &mut Vec<u32>, n: u64) {
-    let at = r.below(words.len() as u64 + 1) as usize;
-    let sign = (r.below(2) as u32) << 29;
-    match r.below(7) {
-        0 => words.truncate(at),
-        1 => words.insert(at, 2 << 30 | sign),
-        2 => words.insert(at, 2 << 30 | sign | (n + r.below(2)) as u32),
-        3 => words.insert(at, 3 << 30 | r.below(4) as u32),
-        4 => words.insert(at, r.word()),
-        5 => words.insert(at, *r.pick(&[0x1FFF_FFFF | 2 << 30, u32::MAX, 0, 0x7FFF_FFFF, 3 << 30])),
-        _ if at < words.len() => words[at] ^= 1 << r.below(32),
-        _ => {}
     }
 }
 

@@ -3,6 +3,7 @@
 use crate::clauses::clauses;
 use crate::constraint::{read, Constraint, Refusal};
 use crate::diagram::Diagram;
+use crate::lent::place;
 
 /// A way to build the diagram, with the most nodes that it may have.
 pub type Build = fn(&Constraint, usize) -> Option<Diagram>;
@@ -13,12 +14,6 @@ pub struct Counts {
     pub nodes: u64,
     pub edges: u64,
     pub words: u64,
-}
-
-/// Puts `words` first and zeros behind them.
-fn place(list: &mut [u32], words: &[u32]) {
-    list[..words.len()].copy_from_slice(words);
-    list[words.len()..].fill(0);
 }
 
 /// The whole call: the counts or the refusal, and the three lists as the specification leaves them.

@@ -1,4 +1,4 @@
-//! A second implementation of the four calls, for comparison with the proved archive. It shares no code with the archive:
+//! A second implementation of the calls, for comparison with the proved archive. It shares no code with the archive:
 //! the diagram is built from sets of reachable sums (`sums`) or with an ordered map a level (`maps`), on the heap, and only then copied into the lent lists.
 
 pub mod clauses;
@@ -8,7 +8,10 @@ pub mod diagram;
 pub mod encode;
 pub mod find;
 pub mod fixed;
+pub mod lent;
 pub mod maps;
 pub mod random;
+pub mod read;
 pub mod sums;
 pub mod test;
+pub mod write;

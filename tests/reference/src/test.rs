@@ -11,10 +11,10 @@ pub enum Verdict {
 }
 
 /// A clause: the place of its first word, and its literals as Boolean and sign.
-type Clause = (usize, Vec<(usize, bool)>);
+pub type Clause = (usize, Vec<(usize, bool)>);
 
-/// The clauses of the list, or the first refusal of 11 to 14.
-fn split(values: usize, list: &[u32]) -> Result<Vec<Clause>, Refusal> {
+/// The clauses of the list, whose Booleans are at most `values`, or the first refusal of 11 to 14.
+pub fn split(values: usize, list: &[u32]) -> Result<Vec<Clause>, Refusal> {
     let refuse = |number, place: usize| Err(Refusal { number, place: place as u64 });
     let mut done = Vec::new();
     let mut open = Vec::new();

@@ -1,11 +1,14 @@
-//! Asks real solvers about the clause lists: with the order Booleans fixed to an assignment, the clauses can be satisfied exactly where the constraint holds.
-//! It uses `minisat` and `cadical` where they are installed, and says so where neither is.
+//! Asks real solvers about the text that the program `dimacs` prints: they accept it as it is, and with the order Booleans fixed to an assignment it can be satisfied
+//! exactly where the constraint holds. Every text is also read back into the words it stands for. It uses `minisat`, `cadical` and `picosat` where they are installed,
+//! and says so where none is.
+
+mod text;
 
 use reference::constraint::{Constraint, Term};
 use reference::random::Random;
-use std::fmt::Write as _;
 use std::io::Write as _;
 use std::process::{Command, Stdio};
+use text::Clauses;
 
 const CONSTRAINTS: u64 = 60;
 const MOST_ASSIGNMENTS: i64 = 48;
@@ -13,8 +16,10 @@ const MOST_ASSIGNMENTS: i64 = 48;
 /// The exit status where nothing could be asked.
 const SKIPPED: i32 = 3;
 
-/// A solver and the arguments that keep it quiet; both read standard input, and end with 10 for yes and 20 for no.
-const SOLVERS: [(&str, &[&str]); 2] = [("minisat", &["-verb=0"]), ("cadical", &["-q"])];
+/// A solver and the arguments that keep it quiet; all read standard input, and end with 10 for yes and 20 for no.
+type Solver = (&'static str, &'static [&'static str]);
+
+const SOLVERS: [Solver; 3] = [("minisat", &["-verb=0"]), ("cadical", &["-q"]), ("picosat", &["-n"])];
 
 /// A small constraint with few assignments.
 fn small(r: &mut Random) -> Constraint {
@@ -30,22 +35,6 @@ fn small(r: &mut Random) -> Constraint {
     }
 }
 
-/// The clauses of the list, a line each, as DIMACS has them.
-fn lines(list: &[u32]) -> (String, usize) {
-    let mut text = String::new();
-    let mut count = 0;
-    for w in list {
-        if w >> 30 == 3 {
-            text.push_str("0\n");
-            count += 1;
-        } else {
-            let sign = if w >> 29 & 1 == 1 { "-" } else { "" };
-            write!(text, "{sign}{} ", w & 0x1FFF_FFFF).unwrap();
-        }
-    }
-    (text, count)
-}
-
 /// The next assignment in counting order; false after the last.
 fn next(values: &mut [i64], c: &Constraint) -> bool {
     for (v, t) in values.iter_mut().zip(&c.terms) {
@@ -58,21 +47,14 @@ fn next(values: &mut [i64], c: &Constraint) -> bool {
     false
 }
 
-/// The unit clauses that fix the order Booleans: (i, j) is true when the value of term i is below j.
-fn units(values: &[i64], c: &Constraint) -> String {
-    let mut text = String::new();
-    let mut boolean = 0;
-    for (v, t) in values.iter().zip(&c.terms) {
-        for j in 1..=t.d {
-            boolean += 1;
-            writeln!(text, "{}{boolean} 0", if *v < j { "" } else { "-" }).unwrap();
-        }
-    }
-    text
+/// The literals that fix the order Booleans: (i, j) is true when the value of term i is below j.
+fn units(values: &[i64], c: &Constraint) -> Vec<i64> {
+    let truths = values.iter().zip(&c.terms).flat_map(|(v, t)| (1..=t.d).map(move |j| *v < j));
+    (1..).zip(truths).map(|(boolean, truth): (i64, bool)| if truth { boolean } else { -boolean }).collect()
 }
 
 /// The solver's answer to the text; nothing where it cannot be run.
-fn ask(solver: (&str, &[&str]), text: &str) -> Option<bool> {
+fn ask(solver: Solver, text: &str) -> Option<bool> {
     let mut child = Command::new(solver.0).args(solver.1).stdin(Stdio::piped()).stdout(Stdio::null()).stderr(Stdio::null()).spawn().ok()?;
     child.stdin.take()?.write_all(text.as_bytes()).ok()?;
     match child.wait().ok()?.code() {
@@ -82,24 +64,26 @@ fn ask(solver: (&str, &[&str]), text: &str) -> Option<bool> {
     }
 }
 
-/// Asks about every assignment of one constraint; gives how many can and cannot be satisfied.
-fn check(solver: (&str, &[&str]), c: &Constraint) -> (u64, u64) {
-    let (mut table, mut edges, mut list) = (vec![0; 4_096], vec![0; 8_192], vec![0; 16_384]);
-    let reply = archive::encode(&c.words(), &mut table, &mut edges, &mut list);
-    assert_eq!(reply.number, 0, "{c:?} is refused");
-    let (text, count) = lines(&list[..reply.words as usize]);
-    let booleans = c.booleans() as u64;
-    let header = format!("p cnf {} {}\n", booleans + 2 + reply.nodes, count as u64 + booleans);
+/// Ends the program unless the solver gives the answer.
+fn expect(solver: Solver, text: &str, answer: bool, of: impl Fn() -> String) {
+    let told = ask(solver, text);
+    if told != Some(answer) {
+        eprintln!("difference: {} says {told:?} and not {answer} of {}\n{text}", solver.0, of());
+        std::process::exit(1);
+    }
+}
+
+/// Asks about one constraint, which all zeros satisfy, and about each of its assignments; gives how many of these can and cannot be satisfied.
+fn check(solver: Solver, c: &Constraint) -> (u64, u64) {
+    let clauses = Clauses::of(c);
+    expect(solver, &clauses.text, true, || format!("{c:?}"));
     let mut values = vec![0; c.terms.len()];
     let (mut can, mut cannot) = (0, 0);
     loop {
         let sum: i64 = values.iter().zip(&c.terms).map(|(v, t)| v * t.a).sum();
-        let told = ask(solver, &format!("{header}{text}{}", units(&values, c)));
-        if told != Some(sum <= c.bound) {
-            eprintln!("difference: {} says {told:?} of {values:?} in {c:?}, whose sum is {sum}", solver.0);
-            std::process::exit(1);
-        }
-        *if sum <= c.bound { &mut can } else { &mut cannot } += 1;
+        let holds = sum <= c.bound;
+        expect(solver, &clauses.with(&units(&values, c)).text, holds, || format!("{values:?} in {c:?}, whose sum is {sum}"));
+        *if holds { &mut can } else { &mut cannot } += 1;
         if !next(&mut values, c) {
             return (can, cannot);
         }
@@ -120,8 +104,8 @@ fn main() {
             can += yes;
             cannot += no;
         }
-        println!("{}: {CONSTRAINTS} constraints, {can} assignments satisfiable, {cannot} not", solver.0);
-        asked += can + cannot;
+        println!("{}: {CONSTRAINTS} texts accepted, {can} assignments satisfiable, {cannot} not", solver.0);
+        asked += CONSTRAINTS + can + cannot;
     }
     if asked == 0 {
         println!("no solver can be run here: skipped");

@@ -1,0 +1,84 @@
+-- THE CHECK OF A CLAUSE LIST, both ways: the words of clauses whose numbers fit pass it, and a list that passes is legal word by word. Assumes nothing.
+use mathlib.Core.Path.{_≡_, refl, ap, ap₂, _∙_}
+use mathlib.Core.Logic.{_⊎_, inl, inr}
+use mathlib.Core.Bool.{Bool, true, false, cond, _&&_}
+use mathlib.Core.List.{List, [], _∷_}
+use Prim.Native.Nat.{ℕ, suc, _+_, _≤_, _<_}
+use native.Mathlib.Omega.{arith}
+use lib.Dec.{eqb, leb}
+use lib.ListN.{length}
+use borrow.Author.Tests.{eqb-true, eq-eqb, ne-eqb, le-leb}
+use Rattle.word.specs.Word.{kind, payload, boolean, lastBoolean, endWord}
+use Rattle.refusal.specs.Table.{andThen, unless}
+use Rattle.refusal.specs.declared.Refusal.the-variants.{ClauseWord, UnknownBoolean, LiteralCount, OpenClause}
+use Rattle.refusal.specs.declared.Checked.{Checked}
+use Rattle.refusal.specs.declared.Checked.the-variants.{Passed, Refused}
+use Rattle.word.proofs.Tests.{between-is}
+use Rattle.refusal.proofs.Passes.{refused-fails, both-passed, unless-passed}
+use Rattle.clause.specs.Meaning.{Clause, Literal, wordOf, closed, wordsOf}
+use Rattle.clause.specs.Check.{listFrom}
+use Rattle.clause.proofs.Written.{LiteralsFit, Fit, literal-word, end-word}
+
+-- ---- What is written passes
+
+literal-passes : (w at k : ℕ) (ws : List ℕ) → kind w ≡ 2 → 1 ≤ boolean w → boolean w ≤ lastBoolean
+    → listFrom lastBoolean at k (w ∷ ws) ≡ listFrom lastBoolean (suc at) (suc k) ws
+unfolding listFrom
+literal-passes w at k ws e p q = rw (ne-eqb (kind w) 3 (λ f. omega arith), eq-eqb (kind w) 2 e, le-leb 1 (boolean w) p, le-leb (boolean w) lastBoolean q)
+
+end-passes : (w at k : ℕ) (ws : List ℕ) → kind w ≡ 3 → payload w ≡ k → listFrom lastBoolean at k (w ∷ ws) ≡ listFrom lastBoolean (suc at) 0 ws
+unfolding listFrom
+end-passes w at k ws e f = rw (eq-eqb (kind w) 3 e, eq-eqb (payload w) k f)
+
+literals-pass : (c : Clause) (at k : ℕ) (ws : List ℕ) → LiteralsFit c
+    → listFrom lastBoolean at k (closed c ws) ≡ listFrom lastBoolean (at + length c) (k + length c) ws
+literals-pass [] at k ws h = ap₂ (λ (i j : ℕ). listFrom lastBoolean i j ws) (omega arith) (omega arith)
+literals-pass (l ∷ c) at k ws h =
+    let t = literal-word (l .says) (l .of) (h .0 .1) in
+    let b : boolean (wordOf l) ≡ l .of = ap (λ (x : Literal). x .of) (t .1) in
+    literal-passes (wordOf l) at k (closed c ws) (t .0) (omega (arith, h .0 .0)) (omega (arith, h .0 .1))
+    ∙ literals-pass c (suc at) (suc k) ws (h .1)
+    ∙ ap₂ (λ (i j : ℕ). listFrom lastBoolean i j ws) (omega arith) (omega arith)
+
+pub words-pass : (cs : List Clause) (at : ℕ) → Fit cs → listFrom lastBoolean at 0 (wordsOf cs) ≡ Passed
+unfolding listFrom
+words-pass [] at h = refl
+words-pass (c ∷ cs) at h =
+    let t = end-word (length c) (h .0 .1) in
+    literals-pass c at 0 (endWord (length c) ∷ wordsOf cs) (h .0 .0)
+    ∙ end-passes (endWord (length c)) (at + length c) (0 + length c) (wordsOf cs) (t .0) (omega (arith, t .1))
+    ∙ words-pass cs (suc (at + length c)) (h .1)
+
+-- ---- What passes, word by word
+
+-- the words, where l literals stand since the last end word
+abbrev pub Lawful : ℕ → List ℕ → Type 0
+Lawful l [] = l ≡ 0
+Lawful l (w ∷ ws) =
+    ((kind w ≡ 3) × (payload w ≡ l) × Lawful 0 ws) ⊎ ((kind w ≡ 2) × (0 < boolean w) × Lawful (suc l) ws)
+
+pub lawful : (at l : ℕ) (ws : List ℕ) → listFrom lastBoolean at l ws ≡ Passed → Lawful l ws
+unfolding listFrom
+lawful at l [] e = go (eqb l 0) refl e
+  where
+    go : (b : Bool) → eqb l 0 ≡ b → unless b (OpenClause at) ≡ Passed → l ≡ 0
+    go true f e = eqb-true l 0 f
+    go false f e = refused-fails (OpenClause at) e
+lawful at l (w ∷ ws) e = go (eqb (kind w) 3) refl (eqb (kind w) 2) refl (λ k. lawful (suc at) k ws) e
+  where
+    ends : Checked
+    ends = andThen (unless (eqb (payload w) l) (LiteralCount at)) (listFrom lastBoolean (suc at) 0 ws)
+
+    goes : Checked
+    goes = andThen (unless (leb 1 (boolean w) && leb (boolean w) lastBoolean) (UnknownBoolean at)) (listFrom lastBoolean (suc at) (suc l) ws)
+
+    go : (p : Bool) → eqb (kind w) 3 ≡ p → (q : Bool) → eqb (kind w) 2 ≡ q → ((k : ℕ) → listFrom lastBoolean (suc at) k ws ≡ Passed → Lawful k ws)
+        → cond p ends (cond q goes (Refused (ClauseWord at))) ≡ Passed → Lawful l (w ∷ ws)
+    go true f q g more e =
+        let h = both-passed (unless (eqb (payload w) l) (LiteralCount at)) (listFrom lastBoolean (suc at) 0 ws) e in
+        inl (eqb-true (kind w) 3 f, eqb-true (payload w) l (unless-passed (eqb (payload w) l) (LiteralCount at) (h .0)), more 0 (h .1))
+    go false f true g more e =
+        let known : Bool = leb 1 (boolean w) && leb (boolean w) lastBoolean in
+        let h = both-passed (unless known (UnknownBoolean at)) (listFrom lastBoolean (suc at) (suc l) ws) e in
+        inr (eqb-true (kind w) 2 g, between-is 1 (boolean w) lastBoolean (unless-passed known (UnknownBoolean at) (h .0)) .0, more (suc l) (h .1))
+    go false f false g more e = refused-fails (ClauseWord at) e

@@ -1,0 +1,4 @@
+pub mod Text
+pub mod Claim
+pub mod Written
+pub mod Reply
