@@ -25,6 +25,7 @@
  *     edge words        a node's number, or PONGILAD_FALSE or PONGILAD_TRUE.
  *     clause words      kind 2, a literal: bit 29 negates it, bits 28 to 0 are the Boolean, from 1.
  *                       kind 3 ends a clause: the payload is the number of its literals.
+ *                       A clause list is lent without the zeros that a call left behind it: a word of 0 is refused with 11.
  *
  * DIMACS TEXT, as bytes
  *   written               `p cnf V C` with V the greatest Boolean of the list (0 where it has none) and C the number of its clauses; then a line a
@@ -111,9 +112,10 @@ typedef struct {
 } pongilad_found;
 
 /* What pongilad_test replies.
- *   verdict  0: every clause is true; 1: a clause is false; 2: refused
- *   number   verdict 1: the number of the first false clause, from 0; verdict 2: the refusal's number, 10 to 14; otherwise 0
- *   place    verdict 1: the place of that clause's first word; verdict 2: the refusal's place; otherwise 0 */
+ *   verdict  0: every clause has a true literal; 1: one has none; 2: refused
+ *   number   verdict 1: the number of the first such clause, from 0; verdict 2: the refusal's number, 10 to 14; otherwise 0
+ *   place    verdict 1: the place of that clause's first word, which in an empty clause is its end word; verdict 2: the
+ *            refusal's place; otherwise 0 */
 typedef struct {
     uint64_t verdict, number, place;
 } pongilad_tested;
@@ -152,7 +154,8 @@ pongilad_found pongilad_find(const uint32_t *table, size_t table_length, uint32_
 pongilad_found pongilad_find_node(const pongilad_node *nodes, size_t nodes_length, uint32_t level, uint32_t remainder);
 
 /* Tests the clauses under the values: byte v - 1 is the value of Boolean v, 0 or 1.
- * All bytes and all words are checked before any clause is tested. A clause without literals is counted and passes as true. */
+ * All bytes and all words are checked before any clause is tested. A clause needs one true literal, so an empty one, which is nothing but the end word
+ * 0xC0000000, is false: the reply names it where every clause before it is true. */
 pongilad_tested pongilad_test(const uint8_t *values, size_t values_length, const uint32_t *clauses, size_t clauses_length);
 
 /* Writes a clause list as DIMACS text, with bytes of 0 behind it up to the end of the lent text. The bytes of 0 are no part of the text: pongilad_read is

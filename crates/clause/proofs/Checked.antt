@@ -1,8 +1,9 @@
--- THE CHECK OF A CLAUSE LIST, both ways: the words of clauses whose numbers fit pass it, and a list that passes is legal word by word. Assumes nothing.
-use mathlib.Core.Path.{_≡_, refl, ap, ap₂, _∙_}
+-- THE CHECK OF A CLAUSE LIST, both ways: the words of clauses whose numbers fit pass it, and a list that passes is lawful word by word. A lawful list is
+-- the words of its clauses, and the clauses of words behind it follow its own. Assumes nothing.
+use mathlib.Core.Path.{_≡_, refl, sym, ap, ap₂, _∙_}
 use mathlib.Core.Logic.{_⊎_, inl, inr}
 use mathlib.Core.Bool.{Bool, true, false, cond, _&&_}
-use mathlib.Core.List.{List, [], _∷_}
+use mathlib.Core.List.{List, [], _∷_, _++_}
 use Prim.Native.Nat.{ℕ, suc, _+_, _≤_, _<_}
 use native.Mathlib.Omega.{arith}
 use lib.Dec.{eqb, leb}
@@ -15,9 +16,9 @@ use Rattle.refusal.specs.declared.Checked.{Checked}
 use Rattle.refusal.specs.declared.Checked.the-variants.{Passed, Refused}
 use Rattle.word.proofs.Tests.{between-is}
 use Rattle.refusal.proofs.Passes.{refused-fails, both-passed, unless-passed}
-use Rattle.clause.specs.Meaning.{Clause, Literal, wordOf, closed, wordsOf}
+use Rattle.clause.specs.Meaning.{Clause, Literal, literalOf, joined, clausesOf, wordOf, closed, wordsOf}
 use Rattle.clause.specs.Check.{listFrom}
-use Rattle.clause.proofs.Written.{LiteralsFit, Fit, literal-word, end-word}
+use Rattle.clause.proofs.Written.{LiteralsFit, Fit, literal-word, word-is, end-word, read-end, read-literal}
 
 -- ---- What is written passes
 
@@ -57,28 +58,93 @@ Lawful l [] = l ≡ 0
 Lawful l (w ∷ ws) =
     ((kind w ≡ 3) × (payload w ≡ l) × Lawful 0 ws) ⊎ ((kind w ≡ 2) × (0 < boolean w) × Lawful (suc l) ws)
 
-pub lawful : (at l : ℕ) (ws : List ℕ) → listFrom lastBoolean at l ws ≡ Passed → Lawful l ws
+pub lawful : (n at l : ℕ) (ws : List ℕ) → listFrom n at l ws ≡ Passed → Lawful l ws
 unfolding listFrom
-lawful at l [] e = go (eqb l 0) refl e
+lawful n at l [] e = go (eqb l 0) refl e
   where
     go : (b : Bool) → eqb l 0 ≡ b → unless b (OpenClause at) ≡ Passed → l ≡ 0
     go true f e = eqb-true l 0 f
     go false f e = refused-fails (OpenClause at) e
-lawful at l (w ∷ ws) e = go (eqb (kind w) 3) refl (eqb (kind w) 2) refl (λ k. lawful (suc at) k ws) e
+lawful n at l (w ∷ ws) e = go (eqb (kind w) 3) refl (eqb (kind w) 2) refl (λ k. lawful n (suc at) k ws) e
   where
     ends : Checked
-    ends = andThen (unless (eqb (payload w) l) (LiteralCount at)) (listFrom lastBoolean (suc at) 0 ws)
+    ends = andThen (unless (eqb (payload w) l) (LiteralCount at)) (listFrom n (suc at) 0 ws)
 
     goes : Checked
-    goes = andThen (unless (leb 1 (boolean w) && leb (boolean w) lastBoolean) (UnknownBoolean at)) (listFrom lastBoolean (suc at) (suc l) ws)
+    goes = andThen (unless (leb 1 (boolean w) && leb (boolean w) n) (UnknownBoolean at)) (listFrom n (suc at) (suc l) ws)
 
-    go : (p : Bool) → eqb (kind w) 3 ≡ p → (q : Bool) → eqb (kind w) 2 ≡ q → ((k : ℕ) → listFrom lastBoolean (suc at) k ws ≡ Passed → Lawful k ws)
+    go : (p : Bool) → eqb (kind w) 3 ≡ p → (q : Bool) → eqb (kind w) 2 ≡ q → ((k : ℕ) → listFrom n (suc at) k ws ≡ Passed → Lawful k ws)
         → cond p ends (cond q goes (Refused (ClauseWord at))) ≡ Passed → Lawful l (w ∷ ws)
     go true f q g more e =
-        let h = both-passed (unless (eqb (payload w) l) (LiteralCount at)) (listFrom lastBoolean (suc at) 0 ws) e in
+        let h = both-passed (unless (eqb (payload w) l) (LiteralCount at)) (listFrom n (suc at) 0 ws) e in
         inl (eqb-true (kind w) 3 f, eqb-true (payload w) l (unless-passed (eqb (payload w) l) (LiteralCount at) (h .0)), more 0 (h .1))
     go false f true g more e =
-        let known : Bool = leb 1 (boolean w) && leb (boolean w) lastBoolean in
-        let h = both-passed (unless known (UnknownBoolean at)) (listFrom lastBoolean (suc at) (suc l) ws) e in
-        inr (eqb-true (kind w) 2 g, between-is 1 (boolean w) lastBoolean (unless-passed known (UnknownBoolean at) (h .0)) .0, more (suc l) (h .1))
+        let known : Bool = leb 1 (boolean w) && leb (boolean w) n in
+        let h = both-passed (unless known (UnknownBoolean at)) (listFrom n (suc at) (suc l) ws) e in
+        inr (eqb-true (kind w) 2 g, between-is 1 (boolean w) n (unless-passed known (UnknownBoolean at) (h .0)) .0, more (suc l) (h .1))
     go false f false g more e = refused-fails (ClauseWord at) e
+
+-- ---- What passes is the words of its clauses
+
+-- where literals stand since the last end word, the clause that they belong to is closed
+begun : (l : ℕ) (ws : List ℕ) → Lawful (suc l) ws → ¬ (clausesOf ws ≡ [])
+begun l [] h e = omega arith
+begun l (w ∷ ws) (inl h) e = let f = read-end w ws (h .0) in let z : _≡_ {A = ℕ} 0 1 = cc in omega arith
+begun l (w ∷ ws) (inr h) e = go (clausesOf ws) (begun (suc l) ws (h .2)) (sym (read-literal w ws (h .0)) ∙ e)
+  where
+    go : (cs : List Clause) → ¬ (cs ≡ []) → joined (literalOf w) cs ≡ [] → ⊥
+    go [] n f = n refl
+    go (c ∷ cs) n f = let z : _≡_ {A = ℕ} 0 1 = cc in omega arith
+
+-- the words of clauses, where l literals of the first stand before them
+abbrev wordsFrom : ℕ → List Clause → List ℕ
+wordsFrom l [] = []
+wordsFrom l (c ∷ cs) = closed c (endWord (l + length c) ∷ wordsOf cs)
+
+from-start : (cs : List Clause) → wordsFrom 0 cs ≡ wordsOf cs
+from-start [] = refl
+from-start (c ∷ cs) = let e : 0 + length c ≡ length c = omega arith in ap (λ (k : ℕ). closed c (endWord k ∷ wordsOf cs)) e
+
+words-from : (l : ℕ) (ws : List ℕ) → Lawful l ws → wordsFrom l (clausesOf ws) ≡ ws
+unfolding clausesOf
+words-from l [] h = refl
+words-from l (w ∷ ws) (inl h) =
+    let e : endWord (l + 0) ≡ w = omega (arith, h .0, h .1) in
+    ap (wordsFrom l) (read-end w ws (h .0)) ∙ ap₂ (λ (x : ℕ) (xs : List ℕ). x ∷ xs) e (sym (from-start (clausesOf ws)) ∙ words-from 0 ws (h .2))
+words-from l (w ∷ ws) (inr h) = ap (wordsFrom l) (read-literal w ws (h .0)) ∙ go (clausesOf ws) (begun l ws (h .2)) (words-from (suc l) ws (h .2))
+  where
+    go : (cs : List Clause) → ¬ (cs ≡ []) → wordsFrom (suc l) cs ≡ ws → wordsFrom l (joined (literalOf w) cs) ≡ w ∷ ws
+    go [] n e = absurd (n refl)
+    go (c ∷ cs) n e =
+        let k : l + suc (length c) ≡ suc l + length c = omega arith in
+        ap₂ (λ (x i : ℕ). x ∷ closed c (endWord i ∷ wordsOf cs)) (word-is w (h .0)) k ∙ ap (λ (xs : List ℕ). w ∷ xs) e
+
+pub lawful-written : (ws : List ℕ) → Lawful 0 ws → wordsOf (clausesOf ws) ≡ ws
+lawful-written ws h = sym (from-start (clausesOf ws)) ∙ words-from 0 ws h
+
+-- ---- A list in two parts
+
+-- the clauses of a first part that closes them all, and those of the second
+pub clauses-append : (l : ℕ) (us ws : List ℕ) → Lawful l us → clausesOf (us ++ ws) ≡ clausesOf us ++ clausesOf ws
+unfolding clausesOf
+clauses-append l [] ws h = refl
+clauses-append l (u ∷ us) ws (inl h) =
+    read-end u (us ++ ws) (h .0)
+    ∙ ap (λ (cs : List Clause). [] ∷ cs) (clauses-append 0 us ws (h .2))
+    ∙ ap (λ (cs : List Clause). cs ++ clausesOf ws) (sym (read-end u us (h .0)))
+clauses-append l (u ∷ us) ws (inr h) =
+    read-literal u (us ++ ws) (h .0)
+    ∙ ap (joined (literalOf u)) (clauses-append (suc l) us ws (h .2))
+    ∙ go (clausesOf us) (begun l us (h .2))
+    ∙ ap (λ (cs : List Clause). cs ++ clausesOf ws) (sym (read-literal u us (h .0)))
+  where
+    go : (cs : List Clause) → ¬ (cs ≡ []) → joined (literalOf u) (cs ++ clausesOf ws) ≡ joined (literalOf u) cs ++ clausesOf ws
+    go [] n = absurd (n refl)
+    go (c ∷ cs) n = refl
+
+-- what stands before an end word with count 0 is lawful by itself: no literals are left over
+pub lawful-before : (l : ℕ) (us ws : List ℕ) → Lawful l (us ++ (endWord 0 ∷ ws)) → Lawful l us
+lawful-before l [] ws (inl h) = omega (arith, h .1)
+lawful-before l [] ws (inr h) = absurd (omega (arith, h .0))
+lawful-before l (u ∷ us) ws (inl h) = inl (h .0, h .1, lawful-before 0 us ws (h .2))
+lawful-before l (u ∷ us) ws (inr h) = inr (h .0, h .1, lawful-before (suc l) us ws (h .2))

@@ -22,6 +22,14 @@ clause-true v (l ∷ c) = go (literalTrue v l) refl (clause-true v c)
     go true e ih = (λ x. inl (literal-true v l .0 e), λ x. refl)
     go false e ih = (λ x. inr (ih .0 x), ⊎-elim (λ y. absurd (true≢false (sym (literal-true v l .1 y) ∙ e))) (ih .1))
 
+-- where no literal is true the test fails
+pub clause-false : (v : Values) (c : Clause) → ¬ ClauseTrue v c → clauseTrue v c ≡ false
+clause-false v c h = go (clauseTrue v c) refl
+  where
+    go : (b : Bool) → clauseTrue v c ≡ b → b ≡ false
+    go true e = absurd (h (clause-true v c .0 e))
+    go false e = refl
+
 -- lists one after the other
 pub all-append : (v : Values) (cs ds : List Clause) → AllTrue v (cs ++ ds) ↔ (AllTrue v cs × AllTrue v ds)
 all-append v [] ds = (λ x. (tt, x), λ x. x .1)

@@ -5,7 +5,7 @@ use mathlib.Core.Bool.{Bool, true, false, not}
 use Prim.Native.Nat.{ℕ, suc, _+_, _≤_}
 use native.Mathlib.Omega.{arith}
 use lib.ListN.{length}
-use borrow.Author.Tests.{eq-eqb, ne-eqb, le-leb, lt-leb}
+use borrow.Author.Tests.{eq-eqb, ne-eqb, le-leb, lt-leb, leb-true, leb-false}
 use Rattle.word.specs.Word.{kind, payload, boolean, negated, lastBoolean, literalWord, lastCount, endWord}
 use Rattle.clause.specs.Meaning.{Clause, literalOf, joined, clausesOf, wordOf, closed, wordsOf}
 
@@ -39,6 +39,14 @@ literal-word false b h = (omega arith, λ i. record { of = of i; says = not (say
 
     says : negated (literalWord false b) ≡ true
     says = le-leb 0x20000000 (payload (literalWord false b)) (omega arith)
+
+-- a literal's word is that of its sign and its Boolean
+pub word-is : (w : ℕ) → kind w ≡ 2 → literalWord (not (negated w)) (boolean w) ≡ w
+word-is w h = go (negated w) refl
+  where
+    go : (p : Bool) → negated w ≡ p → literalWord (not p) (boolean w) ≡ w
+    go true e = let z = leb-true 0x20000000 (payload w) e in omega arith
+    go false e = let z = leb-false 0x20000000 (payload w) e in omega arith
 
 pub end-word : (k : ℕ) → k ≤ lastCount → (kind (endWord k) ≡ 3) × (payload (endWord k) ≡ k)
 end-word k h = (omega arith, omega arith)

@@ -17,8 +17,8 @@ pub record Literal : Type 0 where
 abbrev pub Clause : Type 0
 Clause = List Literal
 
--- VALUES give each Boolean its value. A literal is true when its Boolean has the value that it says, a clause when at least one of its literals is (so an
--- empty one never is; the clause tester's own rule for it is in tester/specs/Tested), a list when all its clauses are.
+-- VALUES give each Boolean its value. A literal is true when its Boolean has the value that it says, a clause when at least one of its literals is, so an
+-- empty one never is, and a list when all its clauses are.
 abbrev pub Values : Type 0
 Values = ℕ → Bool
 

@@ -66,7 +66,7 @@ fn constraints() {
     read(&[0x00000001, 0x40010001, 0x40000001]);
 }
 
-// Refusals 10 to 14; an empty clause, counted and passed over; and exercise P's clause list.
+// Refusals 10 to 14, and exercise P's clause list.
 fn clauses() {
     let none = [0u32; 1];
     let no_values = [0u8; 1];
@@ -76,7 +76,6 @@ fn clauses() {
     test(&[1], &[0x80000001, 0xC0000002]);
     test(&[1], &[0x80000001]);
     test(&[1], &[0x80000002, 0xC0000001]);
-    test(&[0], &[0xC0000000, 0x80000001, 0xC0000001]);
     let list = [
         0x80000002,
         0xC0000001,
@@ -94,6 +93,36 @@ fn clauses() {
     ];
     test(&[1, 1, 0, 1], &list);
     test(&[0, 1, 0, 1], &list);
+}
+
+// An empty clause: alone, first, in the middle and last; before a false clause, behind one, and between true ones and a false one; before another; and a
+// list that is refused behind it.
+fn empty_clauses() {
+    let no_values = [0u8; 1];
+    test(&no_values[..0], &[0xC0000000]);
+    test(&[1], &[0xC0000000, 0x80000001, 0xC0000001]);
+    test(
+        &[1],
+        &[0x80000001, 0xC0000001, 0xC0000000, 0x80000001, 0xC0000001],
+    );
+    test(&[1], &[0x80000001, 0xC0000001, 0xC0000000]);
+    test(&[0], &[0xC0000000, 0x80000001, 0xC0000001]);
+    test(&[0], &[0x80000001, 0xC0000001, 0xC0000000]);
+    test(
+        &[1, 0],
+        &[
+            0x80000001,
+            0x80000002,
+            0xC0000002,
+            0xA0000002,
+            0xC0000001,
+            0xC0000000,
+            0x80000002,
+            0xC0000001,
+        ],
+    );
+    test(&[1], &[0x80000001, 0xC0000001, 0xC0000000, 0xC0000000]);
+    test(&no_values[..0], &[0xC0000000, 0xC0000001]);
 }
 
 // Prints a number and what stands behind it.
@@ -209,6 +238,7 @@ fn lengths() {
 fn main() {
     constraints();
     clauses();
+    empty_clauses();
     rows();
     lengths();
 }

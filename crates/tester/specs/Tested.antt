@@ -1,6 +1,6 @@
 -- THE CLAUSE TESTER'S REPLY to value bytes and a clause list. Assumes nothing.
 use mathlib.Core.List.{List, [], _∷_}
-use mathlib.Core.Bool.{Bool, true, false, cond}
+use mathlib.Core.Bool.{false, cond}
 use Prim.Native.Nat.{ℕ, zero, suc, _+_}
 use lib.Dec.{leb, eqb}
 use lib.ListN.{length, getD}
@@ -23,15 +23,11 @@ unfoldable pub valuesFrom : ℕ → List ℕ → Checked
 valuesFrom at [] = Passed
 valuesFrom at (b ∷ bs) = andThen (unless (leb b 1) (ValueByte at)) (valuesFrom (suc at) bs)
 
--- The scan goes past a clause that is empty or has a true literal.
-abbrev pub passedOver : Values → Clause → Bool
-passedOver v [] = true
-passedOver v (l ∷ c) = clauseTrue v (l ∷ c)
-
--- The first clause that is not passed over: m clauses came before, and the next begins at `at`.
+-- The reply by the clauses alone: the first without a true literal and the place where its words begin, which for an empty clause is its end word; or that
+-- all are true. m clauses came before, and the next begins at `at`.
 unfoldable pub scan : Values → ℕ → ℕ → List Clause → Tested
 scan v m at [] = AllTrue
-scan v m at (c ∷ cs) = let more : Tested = scan v (suc m) (suc (at + length c)) cs in cond (passedOver v c) more (NotTrue m at)
+scan v m at (c ∷ cs) = let more : Tested = scan v (suc m) (suc (at + length c)) cs in cond (clauseTrue v c) more (NotTrue m at)
 
 -- A refusal is the reply where there is one, and the scan's where there is none.
 abbrev pub judged : Checked → Tested → Tested

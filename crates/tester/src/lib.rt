@@ -53,7 +53,7 @@ fn check_values(values: &[u8]) -> Checked
     Checked::Passed
 }
 
-// Refusals 11, 12 and 13, word by word, and 14, where the Booleans up to `known` have values.
+// Refusals 11, 12 and 13, word by word, and 14, where the Booleans up to `known` may occur.
 pub fn check_list(known: usize, words: &[u32]) -> Checked
     ensures { λ r. ⌜ r ≡ listFrom known 0 0 (now (words .entry)) ⌝ }
 {
@@ -106,7 +106,7 @@ fn past_end(words: &[u32], from: usize) -> usize
     at
 }
 
-// The first clause without a true literal; an empty one is counted and passed over.
+// The first clause without a true literal, or that there is none. An empty clause has no literal, and its first word is its end word.
 fn scan_list(values: &[u8], words: &[u32]) -> Tested
     ensures { λ r. ⌜ r ≡ scan (valueIn (now (values .entry))) 0 0 (clausesOf (now (words .entry))) ⌝ }
 {
@@ -118,11 +118,6 @@ fn scan_list(values: &[u8], words: &[u32]) -> Tested
         'literals: while at < words.len() {
             let w = words[at];
             if word::kind_of(w) == 3 {
-                if at == start {
-                    at += 1;
-                    clause += 1;
-                    continue 'clauses;
-                }
                 reply = Tested::NotTrue(clause, start);
                 break 'clauses;
             }

@@ -8,12 +8,13 @@ use Prim.Native.Nat.{ℕ, suc, _+_, _*_, _-_, _≤_, _<_, max}
 use native.Mathlib.Omega.{arith}
 use lib.Dec.{eqb}
 use lib.ListN.{length, length-append}
-use borrow.Author.Tests.{leb-true, leb-false, eqb-true, eqb-false, eq-eqb, ne-eqb}
-use Rattle.word.specs.Word.{kind, payload, boolean, negated, lastBoolean, lastCount, literalWord, endWord}
+use borrow.Author.Tests.{eqb-true, eqb-false, eq-eqb, ne-eqb}
+use Rattle.word.specs.Word.{kind, boolean, negated, lastBoolean, lastCount, endWord}
 use Rattle.refusal.specs.declared.Checked.the-variants.{Passed}
 use Rattle.text.specs.Decimal.{decimal}
 use Rattle.text.proofs.Decimals.{digits-few, decimal-most}
 use Rattle.clause.specs.Check.{listFrom}
+use Rattle.clause.proofs.Written.{word-is}
 use Rattle.clause.proofs.Checked.{Lawful, lawful}
 use Rattle.cnf.specs.Text.{mostClauses, Blank, spaced, newline, space, none, blank, whole, Numbers, end, literal, close, sign, Spaces, AfterFirst, AfterCnf, Legal}
 use Rattle.cnf.specs.Written.{greatest, clauseCount, wordText, body, written}
@@ -56,14 +57,6 @@ count-most (w ∷ ws) = go (eqb (kind w) 3) (count-most ws)
 
 -- ---- The lines
 
--- a literal's word is that of its sign and its Boolean
-word-is : (w : ℕ) → kind w ≡ 2 → literalWord (not (negated w)) (boolean w) ≡ w
-word-is w h = go (negated w) refl
-  where
-    go : (p : Bool) → negated w ≡ p → literalWord (not p) (boolean w) ≡ w
-    go true e = let z = leb-true 0x20000000 (payload w) e in omega arith
-    go false e = let z = leb-false 0x20000000 (payload w) e in omega arith
-
 -- the lines, behind a blank
 lines : (n l : ℕ) (f : Bool) (b : ℕ) (ws : List ℕ) → Blank b → Lawful l ws → greatest ws ≤ n → Numbers n f l (clauseCount ws) (b ∷ body ws) ws
 unfolding greatest clauseCount body
@@ -103,7 +96,7 @@ written-legal ws few e =
     one = (omega arith, (space, tt))
 
     second : AfterFirst (greatest ws) ws (decimal (clauseCount ws) ++ (10 ∷ body ws))
-    second = (clauseCount ws, _, refl, omega (arith, count-most ws), lines (greatest ws) 0 false 10 ws newline (lawful 0 0 ws e) (omega arith))
+    second = (clauseCount ws, _, refl, omega (arith, count-most ws), lines (greatest ws) 0 false 10 ws newline (lawful lastBoolean 0 0 ws e) (omega arith))
 
     first : AfterCnf ws (decimal (greatest ws) ++ (32 ∷ []) ++ decimal (clauseCount ws) ++ (10 ∷ []) ++ body ws)
     first = (greatest ws, 32 ∷ (decimal (clauseCount ws) ++ (10 ∷ body ws)), simp append-assoc, greatest-most ws, (32 ∷ [], _, refl, one, second))

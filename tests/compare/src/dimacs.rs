@@ -6,7 +6,7 @@ pub mod program;
 mod texts;
 
 use crate::call::{differ, hex};
-use crate::inputs::{damage_list, large, list};
+use crate::inputs::{damage_list, large};
 use crate::lent::Lent;
 use archive::Text;
 use reference::clauses::clauses;
@@ -109,7 +109,7 @@ pub fn written(r: &mut Random, rounds: u64) -> Tally {
     let mut tally = Tally::new(rounds);
     for round in 0..rounds {
         let n = *r.pick(&BOOLEANS);
-        let mut words = list(r, n);
+        let mut words = r.clause_list(n);
         if round % 2 == 1 {
             damage_list(r, &mut words, n);
         }
@@ -129,7 +129,7 @@ pub fn read(r: &mut Random, rounds: u64) -> Tally {
     let mut tally = Tally::new(rounds);
     for round in 0..rounds {
         let n = *r.pick(&BOOLEANS);
-        let words = list(r, n);
+        let words = r.clause_list(n);
         let mut text = if r.once_in(3) { texts::plain(&words) } else { texts::laid_out(r, &words) };
         if round % 4 != 0 {
             texts::damage(r, &mut text);

@@ -1,4 +1,4 @@
-//! Random constraints and clause lists, valid and damaged.
+//! Random constraints, valid and damaged, and damaged clause lists.
 
 use reference::constraint::{Constraint, Term};
 use reference::random::Random;
@@ -54,19 +54,6 @@ pub fn damage(r: &mut Random, words: &mut Vec<u32>) {
             _ => {}
         }
     }
-}
-
-/// A random clause list over `n` Booleans.
-pub fn list(r: &mut Random, n: u64) -> Vec<u32> {
-    let mut out = Vec::new();
-    for _ in 0..r.below(7) {
-        let literals = if n == 0 { 0 } else { r.below(5) as u32 };
-        for _ in 0..literals {
-            out.push(2 << 30 | (r.below(2) as u32) << 29 | r.from(1, n as i64) as u32);
-        }
-        out.push(3 << 30 | literals);
-    }
-    out
 }
 
 /// Changes one word or the end of the list.

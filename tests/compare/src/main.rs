@@ -10,6 +10,7 @@ mod lent;
 mod others;
 mod program;
 mod show;
+mod tester;
 
 use reference::random::Random;
 
@@ -34,6 +35,17 @@ fn numbers_from(tally: &[u64], k: usize) -> String {
     let mut rest = tally.to_vec();
     rest[..k].fill(0);
     numbers(&rest)
+}
+
+/// A line on the clause tester.
+fn report_tested(name: &str, t: &tester::Tally) {
+    let [all_true, one_false, ..] = t.numbers;
+    let refused = numbers_from(&t.numbers, 2);
+    println!(
+        "{name}: {} calls (all true {all_true}, a clause {one_false}, of these an empty one {}, refused by number {refused})",
+        t.numbers.iter().sum::<u64>(),
+        t.empty
+    );
 }
 
 /// DIMACS text, written, read and printed.
@@ -61,14 +73,9 @@ fn main() {
     report("damaged constraints", &encoder::damaged(&mut r, 3_000));
     let (finds, hits) = others::finder(&mut r, 1_000);
     println!("finder, over words and over records: {finds} calls each, {hits} found");
-    let tested = others::tester(&mut r, 8_000);
-    println!(
-        "clause tester: {} calls (all true {}, a clause {}, refused by number {})",
-        tested.iter().sum::<u64>(),
-        tested[0],
-        tested[1],
-        numbers_from(&tested, 2)
-    );
+    println!("clause tester by the specification: {} lists", tester::cases());
+    report_tested("clause tester", &tester::random(&mut r, 8_000));
+    report_tested("clause tester, every list of up to six words out of nine", &tester::every(6));
     let (compared, yes) = others::comparer(&mut r, 2_000);
     println!("file comparer: {compared} calls, {yes} yes");
     text(&mut r);

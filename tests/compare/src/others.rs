@@ -1,10 +1,9 @@
-//! The finder, the clause tester and the file comparer.
+//! The finder and the file comparer.
 
 use crate::call::{both, differ, hex};
-use crate::inputs::{constraint, damage_list, list};
-use archive::{Found, Node, Tested};
+use crate::inputs::constraint;
+use archive::{Found, Node};
 use reference::random::Random;
-use reference::test::Verdict;
 use reference::{maps, sums};
 
 /// The full records of a table.
@@ -54,56 +53,6 @@ pub fn finder(r: &mut Random, rounds: u64) -> (u64, u64) {
         ask(&[], 0, 0);
     }
     (calls, hits)
-}
-
-/// The tester on both sides; gives the verdict, or the refusal's number.
-fn test_both(values: &[u8], list: &[u32]) -> usize {
-    let ours = archive::test(values, list);
-    let wanted = match reference::test::test(values, list) {
-        Verdict::AllTrue => Tested { verdict: 0, number: 0, place: 0 },
-        Verdict::False { clause, place } => Tested { verdict: 1, number: clause, place },
-        Verdict::Refused(x) => Tested { verdict: 2, number: x.number, place: x.place },
-    };
-    if ours != wanted {
-        differ("the clause tester", format!("values {values:?} list {}\narchive {ours:?} reference {wanted:?}", hex(list)));
-    }
-    if wanted.verdict == 2 {
-        wanted.number as usize
-    } else {
-        wanted.verdict as usize
-    }
-}
-
-/// The tester on random and damaged lists and on lists of the encoder; calls by verdict 0, 1 and refusal.
-pub fn tester(r: &mut Random, rounds: u64) -> [u64; 15] {
-    let mut tally = [0; 15];
-    for _ in 0..rounds {
-        let n = r.below(9);
-        let mut values: Vec<u8> = (0..n).map(|_| r.below(2) as u8).collect();
-        let mut words = list(r, n);
-        tally[test_both(&values, &words)] += 1;
-        for _ in 0..r.from(1, 2) {
-            damage_list(r, &mut words, n);
-        }
-        tally[test_both(&values, &words)] += 1;
-        if n > 0 && r.once_in(4) {
-            let at = r.below(n) as usize;
-            values[at] = r.from(2, 255) as u8;
-            tally[test_both(&values, &words)] += 1;
-        }
-    }
-    for _ in 0..rounds / 8 {
-        let c = constraint(r);
-        let d = sums::build(&c, 1 << 20).unwrap();
-        let words = reference::clauses::clauses(&c, &d);
-        let count = c.booleans() as usize + 2 + d.nodes.len();
-        let low = r.below(2) as u8;
-        let mut values: Vec<u8> = (0..count).map(|_| if r.once_in(9) { 1 - low } else { low }).collect();
-        values[c.booleans() as usize] = 1;
-        tally[test_both(&values, &words)] += 1;
-        tally[test_both(&values[..count - 1], &words)] += 1;
-    }
-    tally
 }
 
 /// The comparer on both sides.

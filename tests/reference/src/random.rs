@@ -36,4 +36,17 @@ impl Random {
     pub fn once_in(&mut self, n: u64) -> bool {
         self.below(n) == 0
     }
+
+    /// A clause list over `n` Booleans: up to six clauses of up to four literals, empty ones among them.
+    pub fn clause_list(&mut self, n: u64) -> Vec<u32> {
+        let mut out = Vec::new();
+        for _ in 0..self.below(7) {
+            let literals = if n == 0 { 0 } else { self.below(5) as u32 };
+            for _ in 0..literals {
+                out.push(2 << 30 | (self.below(2) as u32) << 29 | self.from(1, n as i64) as u32);
+            }
+            out.push(3 << 30 | literals);
+        }
+        out
+    }
 }

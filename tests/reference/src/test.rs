@@ -10,6 +10,9 @@ pub enum Verdict {
     Refused(Refusal),
 }
 
+/// The end word of an empty clause.
+pub const EMPTY: u32 = 3 << 30;
+
 /// A clause: the place of its first word, and its literals as Boolean and sign.
 pub type Clause = (usize, Vec<(usize, bool)>);
 
@@ -54,8 +57,8 @@ pub fn test(values: &[u8], list: &[u32]) -> Verdict {
         Ok(clauses) => clauses,
         Err(refusal) => return Verdict::Refused(refusal),
     };
-    let no_true = |c: &Clause| !c.1.is_empty() && c.1.iter().all(|(b, sign)| (values[b - 1] == 1) != *sign);
-    match clauses.iter().position(no_true) {
+    let holds = |c: &Clause| c.1.iter().any(|(b, sign)| (values[b - 1] == 1) == *sign);
+    match clauses.iter().position(|c| !holds(c)) {
         Some(k) => Verdict::False { clause: k as u64, place: clauses[k].0 as u64 },
         None => Verdict::AllTrue,
     }

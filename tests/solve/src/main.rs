@@ -1,7 +1,8 @@
 //! Asks real solvers about the text that the program `dimacs` prints: they accept it as it is, and with the order Booleans fixed to an assignment it can be satisfied
-//! exactly where the constraint holds. Every text is also read back into the words it stands for. It uses `minisat`, `cadical` and `picosat` where they are installed,
-//! and says so where none is.
+//! exactly where the constraint holds. Every text is also read back into the words it stands for. Then it asks about random clause lists, and compares with the clause
+//! tester. It uses `minisat`, `cadical` and `picosat` where they are installed, and says so where none is.
 
+mod lists;
 mod text;
 
 use reference::constraint::{Constraint, Term};
@@ -12,6 +13,7 @@ use text::Clauses;
 
 const CONSTRAINTS: u64 = 60;
 const MOST_ASSIGNMENTS: i64 = 48;
+const LISTS: u64 = 100;
 
 /// The exit status where nothing could be asked.
 const SKIPPED: i32 = 3;
@@ -105,7 +107,9 @@ fn main() {
             cannot += no;
         }
         println!("{}: {CONSTRAINTS} texts accepted, {can} assignments satisfiable, {cannot} not", solver.0);
-        asked += CONSTRAINTS + can + cannot;
+        let t = lists::check(solver, &mut r, LISTS);
+        println!("{}: {LISTS} clause lists, {} satisfiable, {} not ({} of these with an empty clause)", solver.0, t.can, t.cannot, t.empty);
+        asked += CONSTRAINTS + can + cannot + LISTS;
     }
     if asked == 0 {
         println!("no solver can be run here: skipped");

@@ -1,5 +1,5 @@
--- `tester::scan_list` meets its contract. The invariants: the clauses before this one are passed over, and, inside a clause, its literals before `at` are
--- not true; so the reply is what the definition gives from there on. Both measures are the number of words left. Assumes nothing.
+-- `tester::scan_list` meets its contract. The invariants: the clauses before this one are true, and, inside a clause, its literals before `at` are not;
+-- so the reply is what the definition gives from there on. Both measures are the number of words left. Assumes nothing.
 use borrow.Author.Needs.{needs}
 use native.Mathlib.Omega.{arith}
 use Prim.Native.Nat.{_+_, _-_, _≤_}
@@ -8,7 +8,7 @@ use lib.ListN.{length, drop}
 use Rattle.clause.specs.Meaning.{clausesOf}
 use Rattle.tester.specs.declared.Tested.the-variants.{AllTrue}
 use Rattle.tester.specs.Tested.{valueIn, scan}
-use Rattle.tester.proofs.Scan.{inside, scan-none, inside-none, scan-begin, scan-empty, scan-lacking, scan-false, scan-true, past-drop}
+use Rattle.tester.proofs.Scan.{inside, scan-none, inside-none, scan-begin, scan-lacking, scan-false, scan-true, past-drop}
 use Rattle.tester.proofs.scan_list.Statement.{statement}
 use Rattle.tester.proofs.scan_list.Tie as tie
 
@@ -77,31 +77,6 @@ shared-slice-read-w c = search needs
 kind-of-requires : tie.Need-kind-of-requires Inv-literals μ-literals Inv-clauses μ-clauses
 kind-of-requires c κs = search needs
 
-add-at : tie.Need-add-at Inv-literals μ-literals Inv-clauses μ-clauses
-add-at c = search needs
-
-add-clause : tie.Need-add-clause Inv-literals μ-literals Inv-clauses μ-clauses
-add-clause c = search needs
-
-clauses-less-2 : tie.Need-clauses-less-2 Inv-literals μ-literals Inv-clauses μ-clauses
-clauses-less-2 c = search needs
-
-clauses-again-2 : tie.Need-clauses-again-2 Inv-literals μ-literals Inv-clauses μ-clauses
-clauses-again-2 c =
-    let turn = c .before .before .before .before .before in
-    let args = turn .before .before .before .before .before .args in
-    let v = valueIn (args .values .now) in
-    let m = turn .literals .clause in
-    let ws = args .words .now in
-    let start = turn .before .before .clauses .at in
-    let at = turn .literals .at in (
-      omega arith,
-      omega arith,
-      turn .literals .inv .3,
-      turn .literals .inv .4
-          ∙ scan-empty v m ws start at (omega arith) (omega arith) (omega arith),
-    )
-
 is-true-requires : tie.Need-is-true-requires Inv-literals μ-literals Inv-clauses μ-clauses
 is-true-requires c κs = search needs
 
@@ -111,19 +86,19 @@ add-past-end c = search needs
 past-end-requires : tie.Need-past-end-requires Inv-literals μ-literals Inv-clauses μ-clauses
 past-end-requires c κs = search needs
 
-add-clause-2 : tie.Need-add-clause-2 Inv-literals μ-literals Inv-clauses μ-clauses
-add-clause-2 c = search needs
+add-clause : tie.Need-add-clause Inv-literals μ-literals Inv-clauses μ-clauses
+add-clause c = search needs
 
-clauses-less-3 : tie.Need-clauses-less-3 Inv-literals μ-literals Inv-clauses μ-clauses
-clauses-less-3 c =
+clauses-less-2 : tie.Need-clauses-less-2 Inv-literals μ-literals Inv-clauses μ-clauses
+clauses-less-2 c =
     let turn = c .before .before .before .before .before .before .before in
     let args = turn .before .before .before .before .before .args in
     let ws = args .words .now in
     let at = turn .literals .at in
     omega (arith, past-drop ws (at + 1) (omega arith) .0, c .past-end .ensures)
 
-clauses-again-3 : tie.Need-clauses-again-3 Inv-literals μ-literals Inv-clauses μ-clauses
-clauses-again-3 c =
+clauses-again-2 : tie.Need-clauses-again-2 Inv-literals μ-literals Inv-clauses μ-clauses
+clauses-again-2 c =
     let turn = c .before .before .before .before .before .before .before in
     let args = turn .before .before .before .before .before .args in
     let v = valueIn (args .values .now) in
@@ -135,11 +110,11 @@ clauses-again-3 c =
       omega (arith, past-drop ws (at + 1) (omega arith) .0, c .past-end .ensures),
       turn .literals .inv .3,
       turn .literals .inv .4
-          ∙ scan-true v m ws start at (omega arith) (c .past-end .result) (λ e. omega (arith, e)) (sym (c .before .before .is-true .ensures) ∙ c .before .if3 .taken) (c .past-end .ensures),
+          ∙ scan-true v m ws start at (omega arith) (c .past-end .result) (λ e. omega (arith, e)) (sym (c .before .before .is-true .ensures) ∙ c .before .if2 .taken) (c .past-end .ensures),
     )
 
-add-at-2 : tie.Need-add-at-2 Inv-literals μ-literals Inv-clauses μ-clauses
-add-at-2 c = search needs
+add-at : tie.Need-add-at Inv-literals μ-literals Inv-clauses μ-clauses
+add-at c = search needs
 
 literals-less : tie.Need-literals-less Inv-literals μ-literals Inv-clauses μ-clauses
 literals-less c = search needs
@@ -158,7 +133,7 @@ literals-again c =
       omega arith,
       turn .literals .inv .3,
       turn .literals .inv .4
-          ∙ scan-false v m ws start at (omega arith) (λ e. omega (arith, e)) (sym (c .before .is-true .ensures) ∙ c .if3 .left) (omega arith),
+          ∙ scan-false v m ws start at (omega arith) (λ e. omega (arith, e)) (sym (c .before .is-true .ensures) ∙ c .if2 .left),
     )
 
 returns : tie.Need-returns Inv-literals μ-literals Inv-clauses μ-clauses
@@ -172,7 +147,7 @@ returns c =
 
 returns-2 : tie.Need-returns-2 Inv-literals μ-literals Inv-clauses μ-clauses
 returns-2 c =
-    let turn = c .before .before .before .before .before in
+    let turn = c .before .before .before .before in
     let args = turn .before .before .before .before .before .args in
     let v = valueIn (args .values .now) in
     let m = turn .literals .clause in
@@ -181,7 +156,7 @@ returns-2 c =
     let at = turn .literals .at in
     sym
     (turn .literals .inv .4
-    ∙ scan-lacking v m ws start at (omega arith) (omega arith) (λ e. omega (arith, e)))
+    ∙ scan-lacking v m ws start at (omega arith) (omega arith))
 
 pub scan-list-spec : {M : Type 1} → statement M
 scan-list-spec =
@@ -198,17 +173,13 @@ scan-list-spec =
     mul-w
     shared-slice-read-w
     kind-of-requires
-    add-at
-    add-clause
-    clauses-less-2
-    clauses-again-2
     is-true-requires
     add-past-end
     past-end-requires
-    add-clause-2
-    clauses-less-3
-    clauses-again-3
-    add-at-2
+    add-clause
+    clauses-less-2
+    clauses-again-2
+    add-at
     literals-less
     literals-again
     returns
