@@ -90,6 +90,9 @@ pub fn check_list(known: usize, words: &[u32]) -> Checked
     }
 }
 
+// The least word of kind 3, the end word of an empty clause: just the words from it on end a clause.
+const LEAST_END: u32 = 0xC0000000;
+
 // The place right after the next end word, from a place on, or the list's length.
 fn past_end(words: &[u32], from: usize) -> usize
     requires { ⌜ from ≤ length (now words) ⌝ }
@@ -97,9 +100,9 @@ fn past_end(words: &[u32], from: usize) -> usize
 {
     let mut at = from;
     'skip: while at < words.len() {
-        let k = word::kind_of(words[at]);
+        let w = words[at];
         at += 1;
-        if k == 3 {
+        if LEAST_END <= w {
             return at;
         }
     }
@@ -117,7 +120,7 @@ fn scan_list(values: &[u8], words: &[u32]) -> Tested
         let start = at;
         'literals: while at < words.len() {
             let w = words[at];
-            if word::kind_of(w) == 3 {
+            if LEAST_END <= w {
                 reply = Tested::NotTrue(clause, start);
                 break 'clauses;
             }
