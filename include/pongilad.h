@@ -120,6 +120,14 @@ typedef struct {
     uint64_t verdict, number, place;
 } pongilad_tested;
 
+/* What pongilad_compare replies.
+ *   same  1 where the bytes are those of the words, most significant byte first, exactly four for each word; otherwise 0
+ *   word  same 1: 0; same 0: the number, from 0, of the first word that lacks some of its four bytes or differs from them, or
+ *         words_length where every word has its bytes and more follow */
+typedef struct {
+    uint64_t same, word;
+} pongilad_compared;
+
 /* What pongilad_write and pongilad_read reply.
  *   number  0: done; 11 to 16: the number of the refusal
  *   place   the place of the refusal; 0 where done
@@ -166,8 +174,8 @@ pongilad_text pongilad_write(const uint32_t *clauses, size_t clauses_length, uin
  * writes; every legal list that was written is restored. A text says at most a word for each two bytes. */
 pongilad_text pongilad_read(const uint8_t *text, size_t text_length, uint32_t *clauses, size_t clauses_length);
 
-/* 1 where the bytes are those of the words, most significant byte first, and there are just four for each word; otherwise 0. */
-uint64_t pongilad_compare(const uint8_t *bytes, size_t bytes_length, const uint32_t *words, size_t words_length);
+/* Compares a file's bytes with words, which may be of any kind. Nothing is refused: any two lengths may be lent together. */
+pongilad_compared pongilad_compare(const uint8_t *bytes, size_t bytes_length, const uint32_t *words, size_t words_length);
 
 #ifdef __cplusplus
 }

@@ -1,3 +1,5 @@
--- What the comparer's reply says, and the turns of its loop.
-pub mod Laws
+-- What the comparer's reply says, and what its loops rest on.
+pub mod Lists
+pub mod Four
 pub mod Turns
+pub mod Laws

@@ -1,140 +1,82 @@
--- THE TURNS OF THE COMPARER'S LOOP: what the test gives from word k on, where k words have been found equal. One word and four bytes are dropped
--- in a turn. Assumes nothing.
-use mathlib.Core.Path.{_≡_, refl, sym, _∙_}
+-- THE TURNS OF THE COMPARER'S LOOPS: which words have their four bytes, and what the reply is where all those before word k have. Assumes nothing.
+use mathlib.Core.Path.{_≡_, refl, sym, ap, _∙_}
+use mathlib.Core.Logic.{⊎-elim}
 use mathlib.Core.List.{List, [], _∷_}
-use mathlib.Core.Bool.{Bool, true, false, _&&_, and-false}
-use Prim.Native.Nat.{ℕ, suc, _+_, _-_, _*_, _/_, _%_, _≤_, _<_}
-use native.Mathlib.Nat.{not-suc-le-zero, le-of-suc-le-suc}
-use native.Mathlib.Numerals.{add-one}
+use mathlib.Core.Bool.{Bool, true, false, _&&_}
+use Prim.Native.Nat.{ℕ, zero, suc, _+_, _*_, _≤_, _<_}
+use native.Mathlib.Nat.{eq-or-lt-of-le}
 use native.Mathlib.Omega.{arith}
 use lib.Dec.{eqb}
-use lib.ListN.{length, getD, drop, drop-of-length-le, length-drop}
-use lib.Seq.{drop-cons}
-use borrow.Author.Tests.{eqb-true, eq-eqb, ne-eqb}
+use lib.ListN.{length, getD, take, drop, drop-of-length-le, length-take, length-drop}
+use lib.Seq.{drop-cons, drop-drop}
 use Rattle.word.specs.Word.{ofBytes}
-use Rattle.comparer.specs.Bytes.{bytesOf, eqList}
+use Rattle.word.proofs.Tests.{both-true}
+use Rattle.comparer.specs.declared.Compared.the-variants.{Same, Differs}
+use Rattle.comparer.specs.Bytes.{bytesOf, comparedFrom, compared}
+use Rattle.comparer.specs.Four.{hasFour, AllHave}
+use Rattle.comparer.proofs.Lists.{ne-list}
+use Rattle.comparer.proofs.Four.{one-comparison, four}
 
--- A word is its four bytes, taken apart one byte at a time.
-word-joined : (w : ℕ) → w < 0x100000000 → ofBytes (w / 0x1000000 % 256) (w / 0x10000 % 256) (w / 0x100 % 256) (w % 256) ≡ w
-word-joined w h =
-    let high : w / 0x1000000 % 256 ≡ w / 0x1000000 = omega arith in
-    let second : w / 0x10000 ≡ w / 0x1000000 * 256 + w / 0x10000 % 256 = omega arith in
-    let third : w / 0x100 ≡ w / 0x10000 * 256 + w / 0x100 % 256 = omega arith in
-    let last : w ≡ w / 0x100 * 256 + w % 256 = omega arith in
-    omega arith
+module _ (bs ws : List ℕ) where
+  -- One comparison tells whether word k has its four bytes, where there are four.
+  pub four-test : (k : ℕ) → k * 4 + 3 < length bs → ((i : ℕ) → getD bs i 0 < 256) → getD ws k 0 < 0x100000000
+      → eqb (ofBytes (getD bs (k * 4) 0) (getD bs (k * 4 + 1) 0) (getD bs (k * 4 + 2) 0) (getD bs (k * 4 + 3) 0)) (getD ws k 0) ≡ hasFour bs ws k
+  four-test k whole bound small =
+      rw (four bs (k * 4) whole) (sym (one-comparison _ _ _ _ _ (bound (k * 4)) (bound (k * 4 + 1)) (bound (k * 4 + 2)) (bound (k * 4 + 3)) small))
 
--- The four tests of a word's bytes, before what follows.
-abbrev pub fourTests : ℕ → ℕ → ℕ → ℕ → ℕ → Bool → Bool
-fourTests a b c d w more =
-    eqb a (w / 0x1000000 % 256) && (eqb b (w / 0x10000 % 256) && (eqb c (w / 0x100 % 256) && (eqb d (w % 256) && more)))
-
--- Four bytes that make the word pass the tests, and others fail one.
-module _ (a b c d w : ℕ) (more : Bool) (ha : a < 256) (hb : b < 256) (hc : c < 256) (hd : d < 256) (hw : w < 0x100000000) where
-  pub tests-pass : ofBytes a b c d ≡ w → fourTests a b c d w more ≡ more
-  tests-pass e =
-      rw (
-        eq-eqb a (w / 0x1000000 % 256) (omega arith),
-        eq-eqb b (w / 0x10000 % 256) (omega arith),
-        eq-eqb c (w / 0x100 % 256) (omega arith),
-        eq-eqb d (w % 256) (omega arith),
-      )
-
-  pub tests-fail : ¬ (ofBytes a b c d ≡ w) → fourTests a b c d w more ≡ false
-  tests-fail n =
-      go
-      (eqb a (w / 0x1000000 % 256))
-      (eqb b (w / 0x10000 % 256))
-      (eqb c (w / 0x100 % 256))
-      (eqb d (w % 256))
-      (eqb-true a (w / 0x1000000 % 256))
-      (eqb-true b (w / 0x10000 % 256))
-      (eqb-true c (w / 0x100 % 256))
-      (eqb-true d (w % 256))
-    where
-      go : (p q r s : Bool)
-          → (p ≡ true → a ≡ w / 0x1000000 % 256)
-          → (q ≡ true → b ≡ w / 0x10000 % 256)
-          → (r ≡ true → c ≡ w / 0x100 % 256)
-          → (s ≡ true → d ≡ w % 256)
-          → (p && (q && (r && (s && more)))) ≡ false
-      go false q r s tp tq tr ts = refl
-      go true false r s tp tq tr ts = refl
-      go true true false s tp tq tr ts = refl
-      go true true true false tp tq tr ts = refl
-      go true true true true tp tq tr ts =
-          absurd (n (omega (arith, tp refl, tq refl, tr refl, ts refl, word-joined w hw)))
-
--- A shorter list is not a longer one.
-shorter : (xs ys : List ℕ) → length xs < length ys → eqList xs ys ≡ false
-unfolding eqList
-shorter xs [] h = absurd (not-suc-le-zero h)
-shorter [] (y ∷ ys) h = refl
-shorter (x ∷ xs) (y ∷ ys) h = rw (shorter xs ys (le-of-suc-le-suc h)) (and-false (eqb x y))
-
--- Only no bytes are the bytes of no words.
-left-over : (xs : List ℕ) (m n : ℕ) → length xs ≡ n - m → m ≤ n → eqList xs [] ≡ eqb n m
-unfolding eqList
-left-over [] m n e h = let f : n ≡ m = omega arith in sym (eq-eqb n m f)
-left-over (x ∷ xs) m n e h = sym (ne-eqb n m (λ f. omega arith))
-
--- Four bytes of the list, and the bytes behind them.
-four : (bs : List ℕ) (at : ℕ) → at + 3 < length bs
-    → drop at bs ≡ getD bs at 0 ∷ getD bs (at + 1) 0 ∷ getD bs (at + 2) 0 ∷ getD bs (at + 3) 0 ∷ drop (at + 4) bs
-four bs at h =
-    let e1 : suc at ≡ at + 1 = omega arith in
-    let e2 : suc (at + 1) ≡ at + 2 = omega arith in
-    let e3 : suc (at + 2) ≡ at + 3 = omega arith in
-    let e4 : suc (at + 3) ≡ at + 4 = omega arith in
-    let d0 = rw e1 at (drop-cons bs at 0 (omega arith)) in
-    let d1 = rw e2 at (drop-cons bs (at + 1) 0 (omega arith)) in
-    let d2 = rw e3 at (drop-cons bs (at + 2) 0 (omega arith)) in
-    let d3 = rw e4 at (drop-cons bs (at + 3) 0 h) in
-    cc
-
-module _ (bs ws : List ℕ) (k : ℕ) where
-  -- The first k words have their bytes.
-  abbrev pub Same : Type 0
-  Same = eqList bs (bytesOf ws) ≡ eqList (drop (k * 4) bs) (bytesOf (drop k ws))
-
-  -- What the test gives behind word k.
-  abbrev behind : Bool
-  behind = eqList (drop (k * 4 + 4) bs) (bytesOf (drop (suc k) ws))
-
-  turn : k < length ws → k * 4 + 3 < length bs
-      → eqList (drop (k * 4) bs) (bytesOf (drop k ws))
-      ≡ fourTests (getD bs (k * 4) 0) (getD bs (k * 4 + 1) 0) (getD bs (k * 4 + 2) 0) (getD bs (k * 4 + 3) 0) (getD ws k 0) behind
-  unfolding eqList bytesOf
-  turn h l = rw (drop-cons ws k 0 h, four bs (k * 4) l)
-
-  -- Word k lacks some of its four bytes.
-  pub word-lacks : k < length ws → length bs / 4 ≤ k → Same → false ≡ eqList bs (bytesOf ws)
+  -- Where there are fewer than four, word k lacks some.
+  too-few : (k : ℕ) → length bs < k * 4 + 4 → hasFour bs ws k ≡ false
   unfolding bytesOf
-  word-lacks h l s =
-      sym
-      (s
-      ∙ rw (drop-cons ws k 0 h) (shorter (drop (k * 4) bs) (bytesOf (getD ws k 0 ∷ drop (suc k) ws)) (simp length-drop (omega arith))))
+  too-few k h =
+      ne-list (take 4 (drop (k * 4) bs)) (bytesOf (getD ws k 0 ∷ []))
+      (λ e. omega (arith, ap length e, length-take 4 (drop (k * 4) bs), length-drop (k * 4) bs))
 
-  -- All words have their bytes.
-  pub words-end : length ws ≤ k → k * 4 ≤ length bs → Same → eqb (length bs) (k * 4) ≡ eqList bs (bytesOf ws)
-  unfolding bytesOf
-  words-end h l s =
-      sym (s ∙ rw (drop-of-length-le ws h) (left-over (drop (k * 4) bs) (k * 4) (length bs) (length-drop (k * 4) bs) l))
+  -- One word more has its bytes; four more have theirs.
+  pub one-more : (k n : ℕ) → n ≡ suc k → AllHave bs ws k → hasFour bs ws k ≡ true → AllHave bs ws n
+  one-more k n next all e j h = ⊎-elim (λ f. rw f e) (λ l. all j l) (eq-or-lt-of-le {n = j} {m = k} (omega arith))
 
-  module _ (inside : k < length ws) (whole : k * 4 + 3 < length bs) (bound : (i : ℕ) → getD bs i 0 < 256) (small : getD ws k 0 < 0x100000000) (same : Same) where
-    -- Word k differs from its four bytes.
-    pub word-differs : ¬ (ofBytes (getD bs (k * 4) 0) (getD bs (k * 4 + 1) 0) (getD bs (k * 4 + 2) 0) (getD bs (k * 4 + 3) 0) ≡ getD ws k 0) → false ≡ eqList bs (bytesOf ws)
-    word-differs n =
-        sym
-        (same
-        ∙ turn inside whole
-        ∙ tests-fail _ _ _ _ _ behind (bound (k * 4)) (bound (k * 4 + 1)) (bound (k * 4 + 2)) (bound (k * 4 + 3)) small n)
+  pub four-more : (k : ℕ) (a b c d : Bool) → a ≡ hasFour bs ws k → b ≡ hasFour bs ws (k + 1) → c ≡ hasFour bs ws (k + 2) → d ≡ hasFour bs ws (k + 3)
+      → (((a && b) && c) && d) ≡ true → AllHave bs ws k → AllHave bs ws (k + 4)
+  four-more k a b c d ea eb ec ed e all =
+      let three = both-true ((a && b) && c) d e in
+      let two = both-true (a && b) c (three .0) in
+      let one = both-true a b (two .0) in
+      one-more (k + 3) (k + 4) (omega arith)
+      (one-more (k + 2) (k + 3) (omega arith)
+      (one-more (k + 1) (k + 2) (omega arith) (one-more k (k + 1) (omega arith) all (sym ea ∙ one .0)) (sym eb ∙ one .1))
+      (sym ec ∙ two .1))
+      (sym ed ∙ three .1)
 
-    -- Word k is its four bytes.
-    pub word-equal : ofBytes (getD bs (k * 4) 0) (getD bs (k * 4 + 1) 0) (getD bs (k * 4 + 2) 0) (getD bs (k * 4 + 3) 0) ≡ getD ws k 0
-        → eqList bs (bytesOf ws) ≡ eqList (drop ((k + 1) * 4) bs) (bytesOf (drop (k + 1) ws))
-    word-equal e =
-        let f : (k + 1) * 4 ≡ k * 4 + 4 = omega arith in
-        rw (f, add-one)
-        (same
-        ∙ turn inside whole
-        ∙ tests-pass _ _ _ _ _ behind (bound (k * 4)) (bound (k * 4 + 1)) (bound (k * 4 + 2)) (bound (k * 4 + 3)) small e)
+  -- Where the words before word k have theirs, the reply is the one from word k on.
+  past : (k : ℕ) → k ≤ length ws → AllHave bs ws k → compared bs ws ≡ comparedFrom k (drop (k * 4) bs) (drop k ws)
+  unfolding comparedFrom
+  past zero l all = refl
+  past (suc k) l all =
+      let e : suc k * 4 ≡ k * 4 + 4 = omega arith in
+      past k (omega arith) (λ j h. all j (omega arith))
+      ∙ rw (drop-cons ws k 0 l, all k (omega arith), drop-drop 4 (k * 4) bs, e) refl
+
+  module _ (k : ℕ) (all : AllHave bs ws k) where
+    -- Word k lacks some of its four bytes or differs from them.
+    pub word-apart : k < length ws → hasFour bs ws k ≡ false → compared bs ws ≡ Differs k
+    unfolding comparedFrom
+    word-apart h e = past k (omega arith) all ∙ rw (drop-cons ws k 0 h, e)
+
+    -- Only bytes are left over.
+    pub left-over : k ≡ length ws → k * 4 < length bs → compared bs ws ≡ Differs k
+    unfolding comparedFrom
+    left-over h l = past k (omega arith) all ∙ rw (drop-of-length-le ws {i = k} (omega arith), drop-cons bs (k * 4) 0 l)
+
+    -- Nothing is left over.
+    pub none-left : k ≡ length ws → k * 4 ≡ length bs → compared bs ws ≡ Same
+    unfolding comparedFrom
+    none-left h l = past k (omega arith) all ∙ rw (drop-of-length-le ws {i = k} (omega arith), drop-of-length-le bs {i = k * 4} (omega arith))
+
+    -- There is no further full word, and the bytes are not as many as those of the words.
+    pub ends-apart : k ≤ length ws → k * 4 ≤ length bs → (k < length ws → length bs < k * 4 + 4) → ¬ (length bs ≡ length ws * 4)
+        → compared bs ws ≡ Differs k
+    ends-apart h l few n =
+        ⊎-elim
+        (λ e. left-over e (omega (arith, e)))
+        (λ i. word-apart i (too-few k (few i)))
+        (eq-or-lt-of-le h)

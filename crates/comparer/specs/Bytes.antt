@@ -1,8 +1,11 @@
 -- THE BYTES OF WORDS, and the file comparer's reply. Assumes nothing.
 use mathlib.Core.List.{List, [], _∷_}
-use mathlib.Core.Bool.{Bool, true, false, _&&_}
-use Prim.Native.Nat.{ℕ, _/_, _%_}
+use mathlib.Core.Bool.{Bool, true, false, _&&_, cond}
+use Prim.Native.Nat.{ℕ, suc, _/_, _%_}
 use lib.Dec.{eqb}
+use lib.ListN.{take, drop}
+use Rattle.comparer.specs.declared.Compared.{Compared}
+use Rattle.comparer.specs.declared.Compared.the-variants.{Same, Differs}
 
 -- Four bytes a word, most significant first.
 unfoldable pub bytesOf : List ℕ → List ℕ
@@ -16,6 +19,21 @@ eqList [] (y ∷ ys) = false
 eqList (x ∷ xs) [] = false
 eqList (x ∷ xs) (y ∷ ys) = eqb x y && eqList xs ys
 
--- THE REPLY: the bytes are the words' bytes, with none left over.
+-- Document 01's yes: the bytes are the words' bytes, with none left over.
 abbrev pub sameBytes : List ℕ → List ℕ → Bool
 sameBytes bs ws = eqList bs (bytesOf ws)
+
+-- Whether bytes begin with a word's four.
+abbrev pub beginWith : List ℕ → ℕ → Bool
+beginWith bs w = eqList (take 4 bs) (bytesOf (w ∷ []))
+
+-- The reply from word k on, by its cases: nothing is left; only bytes are; word k has its four bytes, so what comes behind them decides; it lacks some of them
+-- or differs.
+unfoldable pub comparedFrom : ℕ → List ℕ → List ℕ → Compared
+comparedFrom k [] [] = Same
+comparedFrom k (b ∷ bs) [] = Differs k
+comparedFrom k bs (w ∷ ws) = cond (beginWith bs w) (comparedFrom (suc k) (drop 4 bs) ws) (Differs k)
+
+-- THE REPLY to a file's bytes and words, by document 02's request Four.
+abbrev pub compared : List ℕ → List ℕ → Compared
+compared bs ws = comparedFrom 0 bs ws

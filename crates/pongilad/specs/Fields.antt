@@ -1,7 +1,6 @@
 -- THE REPLIES AS NUMBERS, for callers in C: what each field of a reply holds. Assumes nothing.
 use mathlib.Core.Path.{_≡_}
 use mathlib.Core.List.{List}
-use mathlib.Core.Bool.{Bool, true, false}
 use Prim.Native.Nat.{ℕ}
 use lib.ListN.{length}
 use Rattle.refusal.specs.Table.{numberOf, placeOf}
@@ -9,6 +8,8 @@ use Rattle.table.specs.declared.Found.{Found}
 use Rattle.table.specs.declared.Found.the-variants.{At, Nothing}
 use Rattle.tester.specs.declared.Tested.{Tested}
 use Rattle.tester.specs.declared.Tested.the-variants.{AllTrue, NotTrue, Unfit}
+use Rattle.comparer.specs.declared.Compared.{Compared}
+use Rattle.comparer.specs.declared.Compared.the-variants.{Same, Differs}
 use Rattle.cnf.specs.declared.Converted.{Converted}
 use Rattle.cnf.specs.declared.Converted.the-variants.{Length, Refused}
 use Rattle.encoder.specs.declared.Encoded.{Encoded}
@@ -17,6 +18,7 @@ use Rattle.encoder.specs.Promise.{Promise}
 use Rattle.pongilad.specs.declared.EncodedReply.{EncodedReply}
 use Rattle.pongilad.specs.declared.FoundReply.{FoundReply}
 use Rattle.pongilad.specs.declared.TestedReply.{TestedReply}
+use Rattle.pongilad.specs.declared.ComparedReply.{ComparedReply}
 use Rattle.pongilad.specs.declared.TextReply.{TextReply}
 
 -- The values of the encoder's reply: number 0 and the counts, or the refusal's number and place with zero counts.
@@ -34,10 +36,10 @@ testedFields AllTrue = record { verdict = 0; number = 0; place = 0 }
 testedFields (NotTrue k at) = record { verdict = 1; number = k; place = at }
 testedFields (Unfit x) = record { verdict = 2; number = numberOf x; place = placeOf x }
 
--- Yes is 1, no is 0.
-abbrev pub comparedField : Bool → ℕ
-comparedField true = 1
-comparedField false = 0
+-- Yes is 1 with word 0; no is 0 with the number.
+abbrev pub comparedFields : Compared → ComparedReply
+comparedFields Same = record { same = 1; word = 0 }
+comparedFields (Differs k) = record { same = 0; word = k }
 
 -- Done is 0 with place 0 and the length; a refusal is its number and place, with length 0.
 abbrev pub textFields : Converted → TextReply

@@ -1,5 +1,6 @@
 // The calls of the static library, for C and Rust: each slice is a pointer and a length, each reply a struct of numbers. include/pongilad.h is their C side.
 use cnf::Converted;
+use comparer::Compared;
 use encoder::Encoded;
 use nodes::Node;
 use table::Found;
@@ -9,11 +10,11 @@ ghost use mathlib.Core.Path.{_≡_};
 ghost use Rattle.word.specs.Record.{records};
 ghost use Rattle.table.specs.Find.{findIn};
 ghost use Rattle.nodes.specs.Nodes.{recordsOf};
-ghost use Rattle.comparer.specs.Bytes.{sameBytes};
+ghost use Rattle.comparer.specs.Bytes.{compared};
 ghost use Rattle.tester.specs.Tested.{tested};
 ghost use Rattle.reader.specs.Reads.{Reads};
 ghost use Rattle.writer.specs.Writes.{Writes};
-ghost use Rattle.pongilad.specs.Fields.{encodedFields, foundFields, testedFields, comparedField, textFields, Encodes, Converts};
+ghost use Rattle.pongilad.specs.Fields.{encodedFields, foundFields, testedFields, comparedFields, textFields, Encodes, Converts};
 
 // The encoder's reply: number 0 and the counts, or a refusal's number and place.
 #[repr(C)]
@@ -38,6 +39,14 @@ pub struct TestedReply {
     pub verdict: u64,
     pub number: u64,
     pub place: u64,
+}
+
+// The file comparer's reply: same is 1 and word 0; or same is 0 and word the number of the first word that lacks its four bytes or differs from them, or the
+// count of words where only bytes are left over.
+#[repr(C)]
+pub struct ComparedReply {
+    pub same: u64,
+    pub word: u64,
 }
 
 // The reply of the calls that write and read text: number 0 and the result's length, or a refusal's number and place.
@@ -109,6 +118,19 @@ fn tested_reply(x: Tested) -> TestedReply
     }
 }
 
+// The fields of a file comparer's reply.
+fn compared_reply(x: Compared) -> ComparedReply
+    ensures { λ r. ⌜ r ≡ comparedFields x ⌝ }
+{
+    match x {
+        Compared::Same => ComparedReply { same: 1, word: 0 },
+        Compared::Differs(k) => ComparedReply {
+            same: 0,
+            word: k as u64,
+        },
+    }
+}
+
 // The fields of the reply of a call that writes or reads text.
 fn text_reply(x: Converted) -> TextReply
     ensures { λ r. ⌜ r ≡ textFields x ⌝ }
@@ -168,16 +190,13 @@ pub extern "C" fn pongilad_test(values: &[u8], clauses: &[u32]) -> TestedReply
     tested_reply(x)
 }
 
-// What the file comparer says: 1 for yes, 0 for no.
+// Whether the bytes are those of the words, and if not, where they part.
 #[no_mangle]
-pub extern "C" fn pongilad_compare(bytes: &[u8], words: &[u32]) -> u64
-    ensures { λ r. ⌜ r ≡ comparedField (sameBytes (now (bytes .entry)) (now (words .entry))) ⌝ }
+pub extern "C" fn pongilad_compare(bytes: &[u8], words: &[u32]) -> ComparedReply
+    ensures { λ r. ⌜ r ≡ comparedFields (compared (now (bytes .entry)) (now (words .entry))) ⌝ }
 {
-    if comparer::compare(bytes, words) {
-        1
-    } else {
-        0
-    }
+    let x = comparer::compare(bytes, words);
+    compared_reply(x)
 }
 
 // The DIMACS text of a clause list, with zeros behind it.

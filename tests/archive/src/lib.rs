@@ -38,6 +38,13 @@ pub struct Tested {
 
 #[repr(C)]
 #[derive(Clone, Copy, Debug, PartialEq, Eq)]
+pub struct Compared {
+    pub same: u64,
+    pub word: u64,
+}
+
+#[repr(C)]
+#[derive(Clone, Copy, Debug, PartialEq, Eq)]
 pub struct Text {
     pub number: u64,
     pub place: u64,
@@ -58,7 +65,7 @@ extern "C" {
     fn pongilad_find(table: *const u32, n: usize, level: u32, remainder: u32) -> Found;
     fn pongilad_find_node(nodes: *const Node, n: usize, level: u32, remainder: u32) -> Found;
     fn pongilad_test(values: *const u8, v: usize, clauses: *const u32, w: usize) -> Tested;
-    fn pongilad_compare(bytes: *const u8, b: usize, words: *const u32, w: usize) -> u64;
+    fn pongilad_compare(bytes: *const u8, b: usize, words: *const u32, w: usize) -> Compared;
     fn pongilad_write(clauses: *const u32, w: usize, text: *mut u8, t: usize) -> Text;
     fn pongilad_read(text: *const u8, t: usize, clauses: *mut u32, w: usize) -> Text;
 }
@@ -85,7 +92,7 @@ pub fn test(values: &[u8], clauses: &[u32]) -> Tested {
 }
 
 /// The file comparer.
-pub fn compare(bytes: &[u8], words: &[u32]) -> u64 {
+pub fn compare(bytes: &[u8], words: &[u32]) -> Compared {
     unsafe { pongilad_compare(bytes.as_ptr(), bytes.len(), words.as_ptr(), words.len()) }
 }
 

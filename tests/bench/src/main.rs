@@ -1,5 +1,6 @@
-//! Times the proved archive against the separately written calls: the same inputs in the same run, calls in turn, the least time of each.
+//! Times the proved archive against the separately written calls, and the file comparer against loops and `memcmp`: the same inputs in the same run, calls in turn, the least time of each.
 
+mod compare;
 mod text;
 
 use reference::constraint::Constraint;
@@ -79,4 +80,5 @@ fn main() {
     line("65,537 nodes", &fixed::full_with(2), room);
     line("far more", &fixed::beyond(), room);
     text::sizes();
+    compare::file();
 }

@@ -117,7 +117,7 @@ pub fn crowded(r: &mut Random) -> u64 {
         hold(met >= 9, &format!("a level with {met} nodes in block {block}"), &g);
         for level in 0..=terms.len() as u32 + 1 {
             for remainder in 0..=bound + 1 {
-                crate::others::find_both(&g.table, level, remainder);
+                crate::finder::find_both(&g.table, level, remainder);
             }
         }
     }

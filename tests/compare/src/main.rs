@@ -2,12 +2,13 @@
 
 mod call;
 mod capacity;
+mod comparer;
 mod dimacs;
 mod encoder;
 mod exercises;
+mod finder;
 mod inputs;
 mod lent;
-mod others;
 mod program;
 mod show;
 mod tester;
@@ -48,6 +49,13 @@ fn report_tested(name: &str, t: &tester::Tally) {
     );
 }
 
+/// A line on the file comparer.
+fn report_compared(name: &str, t: &comparer::Tally) {
+    let comparer::Tally { yes, lacking, differing, left_over } = t;
+    let calls = yes + lacking + differing + left_over;
+    println!("{name}: {calls} calls (yes {yes}, a word lacks bytes {lacking}, a word differs {differing}, bytes left over {left_over})");
+}
+
 /// DIMACS text, written, read and printed.
 fn text(r: &mut Random) {
     let (legal, refused, lists) = dimacs::cases::all(r);
@@ -71,13 +79,14 @@ fn main() {
     report("random constraints", &encoder::valid(&mut r, 3_000));
     report("larger constraints", &encoder::larger(&mut r, 80));
     report("damaged constraints", &encoder::damaged(&mut r, 3_000));
-    let (finds, hits) = others::finder(&mut r, 1_000);
+    let (finds, hits) = finder::random(&mut r, 1_000);
     println!("finder, over words and over records: {finds} calls each, {hits} found");
     println!("clause tester by the specification: {} lists", tester::cases());
     report_tested("clause tester", &tester::random(&mut r, 8_000));
     report_tested("clause tester, every list of up to six words out of nine", &tester::every(6));
-    let (compared, yes) = others::comparer(&mut r, 2_000);
-    println!("file comparer: {compared} calls, {yes} yes");
+    println!("file comparer by the request: {} files, and {} by their damage", comparer::cases(), comparer::damaged(&mut r));
+    report_compared("file comparer", &comparer::random(&mut r, 2_000));
+    report_compared("file comparer, every file of up to nine bytes, each 0 or 1", &comparer::every());
     text(&mut r);
     let (shown, refused) = show::program(&mut r, 400);
     println!("printing program: {shown} inputs (refused by number {})", numbers(&refused));

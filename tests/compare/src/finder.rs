@@ -1,4 +1,4 @@
-//! The finder and the file comparer.
+//! The finder.
 
 use crate::call::{both, differ, hex};
 use crate::inputs::constraint;
@@ -24,7 +24,7 @@ pub fn find_both(table: &[u32], level: u32, remainder: u32) -> bool {
 }
 
 /// The finder in both forms, on tables of the encoder and on any words: questions and hits.
-pub fn finder(r: &mut Random, rounds: u64) -> (u64, u64) {
+pub fn random(r: &mut Random, rounds: u64) -> (u64, u64) {
     let (mut calls, mut hits) = (0, 0);
     let mut ask = |table: &[u32], level, remainder| {
         calls += 1;
@@ -53,39 +53,4 @@ pub fn finder(r: &mut Random, rounds: u64) -> (u64, u64) {
         ask(&[], 0, 0);
     }
     (calls, hits)
-}
-
-/// The comparer on both sides.
-fn compare_both(bytes: &[u8], words: &[u32]) -> bool {
-    let ours = archive::compare(bytes, words);
-    let wanted = reference::compare::compare(bytes, words);
-    if ours != wanted as u64 {
-        differ("the file comparer", format!("bytes {bytes:02X?} words {}\narchive {ours} reference {wanted}", hex(words)));
-    }
-    wanted
-}
-
-/// The comparer on equal and on damaged files: calls and yes replies.
-pub fn comparer(r: &mut Random, rounds: u64) -> (u64, u64) {
-    let (mut calls, mut yes) = (0, 0);
-    for _ in 0..rounds {
-        let words: Vec<u32> = (0..r.below(9)).map(|_| r.word()).collect();
-        let whole: Vec<u8> = words.iter().flat_map(|w| w.to_be_bytes()).collect();
-        let mut files = vec![whole.clone(), words.iter().flat_map(|w| w.to_le_bytes()).collect()];
-        let mut one = whole.clone();
-        if let Some(at) = (!one.is_empty()).then(|| r.below(one.len() as u64) as usize) {
-            one[at] ^= 1 << r.below(8);
-        }
-        files.push(one);
-        files.push(whole[..r.below(whole.len() as u64 + 1) as usize].to_vec());
-        let mut more = whole.clone();
-        more.extend((0..r.from(1, 5)).map(|_| 0u8));
-        files.push(more);
-        files.push(Vec::new());
-        for f in &files {
-            calls += 1;
-            yes += compare_both(f, &words) as u64;
-        }
-    }
-    (calls, yes)
 }
