@@ -1,5 +1,5 @@
--- WHAT THE REPLY SAYS: yes just where yes was said before the reply had a number, which is where the bytes are those of the words; and no with the number of the first
--- word that lacks its four bytes or differs from them, or with the count of words where only bytes are left over. By induction on the words.
+-- WHAT THE REPLY SAYS: yes just where yes was said before the reply had a number, which is where the bytes are those of the words; and no with the number of
+-- the first word that lacks its four bytes or differs from them, or with the count of words where only bytes are left over. By induction on the words.
 -- Assumes nothing.
 use mathlib.Core.Path.{_≡_, refl, sym, ap, _∙_}
 use mathlib.Core.Logic.{_↔_, _⊎_, inl, inr, ⊎-elim}

@@ -35,9 +35,9 @@ module _ (bs ws : List ℕ) where
   pub one-more : (k n : ℕ) → n ≡ suc k → AllHave bs ws k → hasFour bs ws k ≡ true → AllHave bs ws n
   one-more k n next all e j h = ⊎-elim (λ f. rw f e) (λ l. all j l) (eq-or-lt-of-le {n = j} {m = k} (omega arith))
 
-  pub four-more : (k : ℕ) (a b c d : Bool) → a ≡ hasFour bs ws k → b ≡ hasFour bs ws (k + 1) → c ≡ hasFour bs ws (k + 2) → d ≡ hasFour bs ws (k + 3)
+  pub four-more : (k : ℕ) {a b c d : Bool} → a ≡ hasFour bs ws k → b ≡ hasFour bs ws (k + 1) → c ≡ hasFour bs ws (k + 2) → d ≡ hasFour bs ws (k + 3)
       → (((a && b) && c) && d) ≡ true → AllHave bs ws k → AllHave bs ws (k + 4)
-  four-more k a b c d ea eb ec ed e all =
+  four-more k {a} {b} {c} {d} ea eb ec ed e all =
       let three = both-true ((a && b) && c) d e in
       let two = both-true (a && b) c (three .0) in
       let one = both-true a b (two .0) in

@@ -103,8 +103,8 @@ fn told(bytes: &[u8], words: &[u32], wanted: Compared) -> u64 {
     let reply = both(bytes, words);
     if reply != wanted {
         differ(
-            "the file comparer and the specification",
-            format!("bytes {bytes:02X?} words {}\nreply {reply:?} specification {wanted:?}", hex(words)),
+            "the file comparer and the reply that is known",
+            format!("bytes {bytes:02X?} words {}\nreply {reply:?} known {wanted:?}", hex(words)),
         );
     }
     1

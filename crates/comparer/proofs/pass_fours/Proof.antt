@@ -60,10 +60,6 @@ loop-again c =
           (args .bytes .now)
           (args .words .now)
           (turn .loop .k)
-          _
-          _
-          _
-          _
           (c .before .before .before .before .has-four .ensures)
           (c .before .before .before .has-four2 .ensures)
           (c .before .before .has-four3 .ensures)
