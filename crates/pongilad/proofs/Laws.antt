@@ -7,10 +7,10 @@ use Rattle.refusal.specs.Table.{numberOf, placeOf}
 use Rattle.refusal.specs.declared.Refusal.{Refusal}
 use Rattle.tester.specs.declared.Tested.{Tested}
 use Rattle.tester.specs.declared.Tested.the-variants.{Unfit}
-use Rattle.cnf.specs.declared.Converted.{Converted}
-use Rattle.cnf.specs.declared.Converted.the-variants as converted
-use Rattle.encoder.specs.declared.Encoded.{Encoded}
-use Rattle.encoder.specs.declared.Encoded.the-variants.{Refused}
+use Rattle.dimacs_text.specs.declared.Converted.{Converted}
+use Rattle.dimacs_text.specs.declared.Converted.the-variants as converted
+use Rattle.encoder_levels.specs.declared.Encoded.{Encoded}
+use Rattle.encoder_levels.specs.declared.Encoded.the-variants.{Refused}
 use Rattle.encoder.specs.Promise.{Promise}
 use Rattle.pongilad.specs.declared.EncodedReply.{EncodedReply}
 use Rattle.pongilad.specs.declared.TestedReply.{TestedReply}

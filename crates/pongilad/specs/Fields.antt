@@ -4,16 +4,17 @@ use mathlib.Core.List.{List}
 use Prim.Native.Nat.{ℕ}
 use lib.ListN.{length}
 use Rattle.refusal.specs.Table.{numberOf, placeOf}
-use Rattle.table.specs.declared.Found.{Found}
-use Rattle.table.specs.declared.Found.the-variants.{At, Nothing}
+use Rattle.finder.specs.declared.Found.{Found}
+use Rattle.finder.specs.declared.Found.the-variants.{At, Nothing}
 use Rattle.tester.specs.declared.Tested.{Tested}
 use Rattle.tester.specs.declared.Tested.the-variants.{AllTrue, NotTrue, Unfit}
 use Rattle.comparer.specs.declared.Compared.{Compared}
 use Rattle.comparer.specs.declared.Compared.the-variants.{Same, Differs}
-use Rattle.cnf.specs.declared.Converted.{Converted}
-use Rattle.cnf.specs.declared.Converted.the-variants.{Length, Refused}
-use Rattle.encoder.specs.declared.Encoded.{Encoded}
-use Rattle.encoder.specs.Encoded.{Values, valuesOf, encoded}
+use Rattle.dimacs_text.specs.declared.Converted.{Converted}
+use Rattle.dimacs_text.specs.declared.Converted.the-variants.{Length, Refused}
+use Rattle.encoder_levels.specs.declared.Encoded.{Encoded}
+use Rattle.encoder_levels.specs.Reply.{EncodedValues, encodedValues}
+use Rattle.encoder.specs.Encoded.{encoded}
 use Rattle.encoder.specs.Promise.{Promise}
 use Rattle.pongilad.specs.declared.EncodedReply.{EncodedReply}
 use Rattle.pongilad.specs.declared.FoundReply.{FoundReply}
@@ -23,7 +24,7 @@ use Rattle.pongilad.specs.declared.TextReply.{TextReply}
 
 -- The values of the encoder's reply: number 0 and the counts, or the refusal's number and place with zero counts.
 abbrev pub encodedFields : Encoded → EncodedReply
-encodedFields x = let v : Values = valuesOf x in record { number = v .number; place = v .place; nodes = v .nodes; edges = v .edges; words = v .words }
+encodedFields x = let v : EncodedValues = encodedValues x in record { number = v .number; place = v .place; nodes = v .nodes; edges = v .edges; words = v .words }
 
 -- 1 and the record's number; where there is none, 0 and the gap.
 abbrev pub foundFields : Found → FoundReply

@@ -1,19 +1,19 @@
 // The calls of the static library, for C and Rust: each slice is a pointer and a length, each reply a struct of numbers. include/pongilad.h is their C side.
-use cnf::Converted;
 use comparer::Compared;
-use encoder::Encoded;
-use nodes::Node;
-use table::Found;
+use dimacs_text::Converted;
+use encoder_levels::Encoded;
+use finder::Found;
+use finder_records::Node;
 use tester::Tested;
 use word::Remainder;
 ghost use mathlib.Core.Path.{_≡_};
 ghost use Rattle.word.specs.Record.{records};
-ghost use Rattle.table.specs.Find.{findIn};
-ghost use Rattle.nodes.specs.Nodes.{recordsOf};
+ghost use Rattle.finder.specs.Find.{findIn};
+ghost use Rattle.finder_records.specs.Nodes.{recordsOf};
 ghost use Rattle.comparer.specs.Bytes.{compared};
 ghost use Rattle.tester.specs.Tested.{tested};
-ghost use Rattle.reader.specs.Reads.{Reads};
-ghost use Rattle.writer.specs.Writes.{Writes};
+ghost use Rattle.dimacs_reader.specs.Reads.{Reads};
+ghost use Rattle.dimacs_writer.specs.Writes.{Writes};
 ghost use Rattle.pongilad.specs.Fields.{encodedFields, foundFields, testedFields, comparedFields, textFields, Encodes, Converts};
 
 // The encoder's reply: number 0 and the counts, or a refusal's number and place.
@@ -168,7 +168,7 @@ pub extern "C" fn pongilad_encode(
 pub extern "C" fn pongilad_find(table: &[u32], level: u32, remainder: u32) -> FoundReply
     ensures { λ r. ⌜ r ≡ foundFields (findIn (records (now (table .entry))) level remainder) ⌝ }
 {
-    let x = table::find(table, level, Remainder(remainder));
+    let x = finder::find(table, level, Remainder(remainder));
     found_reply(x)
 }
 
@@ -177,7 +177,7 @@ pub extern "C" fn pongilad_find(table: &[u32], level: u32, remainder: u32) -> Fo
 pub extern "C" fn pongilad_find_node(nodes: &[Node], level: u32, remainder: u32) -> FoundReply
     ensures { λ r. ⌜ r ≡ foundFields (findIn (recordsOf (now (nodes .entry))) level remainder) ⌝ }
 {
-    let x = nodes::find(nodes, level, Remainder(remainder));
+    let x = finder_records::find(nodes, level, Remainder(remainder));
     found_reply(x)
 }
 
@@ -204,7 +204,7 @@ pub extern "C" fn pongilad_compare(bytes: &[u8], words: &[u32]) -> ComparedReply
 pub extern "C" fn pongilad_write(clauses: &[u32], text: &mut [u8]) -> TextReply
     ensures { λ r. ⌜ Converts (Writes (now (clauses .entry)) (now (text .entry)) (now (text .exit))) r ⌝ }
 {
-    let x = writer::write(clauses, text);
+    let x = dimacs_writer::write(clauses, text);
     text_reply(x)
 }
 
@@ -213,6 +213,6 @@ pub extern "C" fn pongilad_write(clauses: &[u32], text: &mut [u8]) -> TextReply
 pub extern "C" fn pongilad_read(text: &[u8], clauses: &mut [u32]) -> TextReply
     ensures { λ r. ⌜ Converts (Reads (now (text .entry)) (now (clauses .entry)) (now (clauses .exit))) r ⌝ }
 {
-    let x = reader::read(text, clauses);
+    let x = dimacs_reader::read(text, clauses);
     text_reply(x)
 }

@@ -10,39 +10,41 @@ use lib.Dec.{ltb, leb, eqb}
 use lib.ListN.{length, getD, take, drop, length-append, length-map}
 use lib.Seq.{take-all}
 use borrow.Author.Tests.{ltb-false}
+use Rattle.word.specs.Record.{mostNodes}
 use Rattle.word.specs.Word.{kind, domainEnd, coefficient, lastBoolean}
 use Rattle.word.specs.Edge.{Edge, F, T, to, edgeWord}
 use Rattle.text.specs.Decimal.{decimal}
-use Rattle.refusal.specs.Table.{numberOf, placeOf, andThen, unless}
+use Rattle.refusal.specs.Table.{numberOf, placeOf, andThen, unless, unlessRefused}
 use Rattle.refusal.specs.declared.Refusal.{Refusal}
 use Rattle.refusal.specs.declared.Refusal.the-variants.{NoWords, WrongKind, TermCount, DomainEnd, ZeroCoefficient, TooManyNodes, TooManyEdges, TooManyWords, TooManyBooleans, ValueByte, ClauseWord, UnknownBoolean, LiteralCount, OpenClause, NoRoom, NotDimacs}
 use Rattle.refusal.specs.declared.Checked.{Checked}
 use Rattle.refusal.specs.declared.Checked.the-variants as check
 use Rattle.diagram.specs.Table.{Node}
 use Rattle.diagram.specs.Claim.{nodeAt}
-use Rattle.diagram.specs.Flat.{edgeWords, edgeCount}
+use Rattle.diagram.specs.Flat.{edgeWords, edgeCount, Small}
 use Rattle.diagram.specs.Constraint.{Constraint, Within}
 use Rattle.diagram.proofs.Terms.{levels-ascend, levels-length}
 use Rattle.diagram.proofs.Drawn.{table-right}
-use Rattle.diagram.proofs.Written.{Small}
 use Rattle.encoding.specs.Boolean.{orders}
 use Rattle.encoding.specs.Pattern.{wordCount}
 use Rattle.encoding.proofs.Fits.{own-level}
 use Rattle.builder.proofs.Diagram.{label-ends}
 use Rattle.constraint.specs.Reading.{eachFrom, kindChecked, termChecked, countChecked, upTo, checked, stated}
 use Rattle.constraint.proofs.Laws.{checked-within, rest-fits}
-use Rattle.encoder.specs.declared.Counts.{Counts}
-use Rattle.encoder.specs.declared.Encoded.{Encoded}
-use Rattle.encoder.specs.declared.Encoded.the-variants.{Accepted, Refused}
-use Rattle.encoder.specs.Encoded.{levelsIn, nodesFor, rootFor, capacity, refuseIf, unlessRefused, counted, encoded}
+use Rattle.filler.specs.declared.Counts.{Counts}
+use Rattle.encoder_levels.specs.declared.Encoded.{Encoded}
+use Rattle.encoder_levels.specs.declared.Encoded.the-variants.{Accepted, Refused}
+use Rattle.encoder_levels.specs.Reply.{capacity, refuseIf, countsWithin}
+use Rattle.encoder.specs.Encoded.{encoded}
+use Rattle.filler.specs.Filled.{levelsIn, nodesFor, rootFor}
 use Rattle.encoder.proofs.Meant.{plain, edges-length, words-length}
-use Rattle.encoder.proofs.Answers.{countsOf}
-use Rattle.printout.specs.Text.{child, children, nodeLine, nodeLines, countsLine, refusalLine, nodesWord, edgesWord, wordsWord, refusedWord, atWord, newline, field, tooLong, badLength}
+use Rattle.encoder_levels.proofs.Answers.{countsOf}
+use Rattle.printout_lines.specs.Text.{child, children, nodeLine, nodeLines, countsLine, refusalLine, nodesWord, edgesWord, wordsWord, refusedWord, atWord, newline, field, tooLong, badLength}
 use Rattle.printout.specs.Shown.{wordsIn, acceptedText, replyText, clausesFor, wordsText, shownIn, shown, Shows, ShowsAll}
 use Rattle.text.proofs.Cuts.{printed-inside, printed-count}
 use Rattle.text.proofs.Decimals.{digits-few}
 use Rattle.printout.proofs.Input as Input
-use Rattle.writer.proofs.Restored.{written-few}
+use Rattle.dimacs_writer.proofs.Restored.{written-few}
 use Rattle.printout.specs.declared.Form.{Form}
 use Rattle.printout.specs.declared.Form.the-variants.{Diagram, Clauses}
 
@@ -197,8 +199,8 @@ abbrev pub Sized : Constraint → ℕ → ℕ → ℕ → ℕ → Encoded → Ty
 Sized c n t e w (Accepted m) = (m ≡ countsOf c) × (length (nodesFor c) ≤ capacity t) × (edgeCount (levelsIn c) (nodesFor c) ≤ e) × (wordCount (levelsIn c) (nodesFor c) ≤ w)
 Sized c n t e w (Refused x) = placeOf x ≤ n
 
-pub sized-counted : (c : Constraint) (n t e w : ℕ) → Sized c n t e w (counted c t e w)
-unfolding counted
+pub sized-counted : (c : Constraint) (n t e w : ℕ) → Sized c n t e w (countsWithin c t e w)
+unfolding countsWithin
 sized-counted c n t e w = go (ltb (capacity t) (length (nodesFor c))) refl (ltb e (edgeCount (levelsIn c) (nodesFor c))) refl (ltb w (wordCount (levelsIn c) (nodesFor c))) refl
     (ltb lastBoolean (orders (levelsIn c) + 2 + length (nodesFor c)))
   where
@@ -214,7 +216,7 @@ sized-counted c n t e w = go (ltb (capacity t) (length (nodesFor c))) refl (ltb 
 
 -- ---- The nodes
 
-nodes-short : (c : Constraint) → Within c → length (nodesFor c) ≤ 65536 → (m : ℕ) → m < length (nodesFor c) → Short (nodeAt (nodesFor c) m)
+nodes-short : (c : Constraint) → Within c → length (nodesFor c) ≤ mostNodes → (m : ℕ) → m < length (nodesFor c) → Short (nodeAt (nodesFor c) m)
 nodes-short c within few m h =
     let l = own-level (levelsIn c) (c .bound) (nodesFor c) (rootFor c) (table-right (levelsIn c) (c .bound) (levels-ascend (c .terms))) m h in
     let b = label-ends (levelsIn c) (levels-ascend (c .terms)) (c .bound) m (l .0) (l .2) in
@@ -237,7 +239,7 @@ accepted-fit : (f : Form) (c : Constraint) → Within c → (m : Counts) → Siz
     → length (acceptedText f m (nodesFor c) (clausesFor c)) ≤ most f
 accepted-fit Diagram c within m s =
     let few : length (nodesFor c) ≤ 1024 = omega (arith, s .1) in
-    let wide : length (nodesFor c) ≤ 65536 = omega arith in
+    let wide : length (nodesFor c) ≤ mostNodes = omega arith in
     let n = s .0 in
     omega (
       arith,
@@ -248,7 +250,7 @@ accepted-fit Diagram c within m s =
       s .2,
     )
 accepted-fit Clauses c within m s =
-    let wide : length (nodesFor c) ≤ 65536 = omega (arith, s .1) in
+    let wide : length (nodesFor c) ≤ mostNodes = omega (arith, s .1) in
     omega (arith, written-few (clausesFor c), words-length c within wide, s .3)
 
 words-fit : (f : Form) (ws : List ℕ) → length ws ≤ 66 → length (wordsText f ws 4096 8192 16384) ≤ most f
@@ -264,8 +266,8 @@ words-fit f ws h = go (checked ws) refl (at-checked ws)
     reply (Accepted m) p s = accepted-fit f (stated ws) (checked-within ws p) m s
 
     go : (k : Checked) → checked ws ≡ k → At (length ws) k
-        → length (replyText f (unlessRefused k (counted (stated ws) 4096 8192 16384)) (nodesFor (stated ws)) (clausesFor (stated ws))) ≤ most f
-    go check.Passed e a = reply (counted (stated ws) 4096 8192 16384) e (sized-counted (stated ws) 66 4096 8192 16384)
+        → length (replyText f (unlessRefused Refused k (countsWithin (stated ws) 4096 8192 16384)) (nodesFor (stated ws)) (clausesFor (stated ws))) ≤ most f
+    go check.Passed e a = reply (countsWithin (stated ws) 4096 8192 16384) e (sized-counted (stated ws) 66 4096 8192 16384)
     go (check.Refused x) e a = line f x (omega arith)
 
 -- THE BOUND

@@ -51,3 +51,8 @@ andThen (Refused x) next = Refused x
 abbrev pub unless : Bool → Refusal → Checked
 unless true x = Passed
 unless false x = Refused x
+
+-- The answer of a call that checks first: the refusal, as the call's own kind of answer says it, or what comes next.
+abbrev pub unlessRefused {ℓ} : {A : Type ℓ} → (Refusal → A) → Checked → A → A
+unlessRefused refuse Passed next = next
+unlessRefused refuse (Refused x) next = refuse x

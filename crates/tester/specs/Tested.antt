@@ -4,9 +4,9 @@ use mathlib.Core.Bool.{false, cond}
 use Prim.Native.Nat.{ℕ, zero, suc, _+_}
 use lib.Dec.{leb, eqb}
 use lib.ListN.{length, getD}
-use Rattle.refusal.specs.Table.{andThen, unless}
+use Rattle.refusal.specs.Table.{andThen, unless, unlessRefused}
 use Rattle.refusal.specs.declared.Checked.{Checked}
-use Rattle.refusal.specs.declared.Checked.the-variants.{Passed, Refused}
+use Rattle.refusal.specs.declared.Checked.the-variants.{Passed}
 use Rattle.refusal.specs.declared.Refusal.the-variants.{ValueByte}
 use Rattle.clause.specs.Meaning.{Clause, Values, clausesOf, clauseTrue}
 use Rattle.clause.specs.Check.{listFrom}
@@ -29,11 +29,6 @@ unfoldable pub scan : Values → ℕ → ℕ → List Clause → Tested
 scan v m at [] = AllTrue
 scan v m at (c ∷ cs) = let more : Tested = scan v (suc m) (suc (at + length c)) cs in cond (clauseTrue v c) more (NotTrue m at)
 
--- A refusal is the reply where there is one, and the scan's where there is none.
-abbrev pub judged : Checked → Tested → Tested
-judged Passed t = t
-judged (Refused x) t = Unfit x
-
 -- THE REPLY: every check comes before the scan.
 unfoldable pub tested : List ℕ → List ℕ → Tested
-tested bs ws = judged (andThen (valuesFrom 0 bs) (listFrom (length bs) 0 0 ws)) (scan (valueIn bs) 0 0 (clausesOf ws))
+tested bs ws = unlessRefused Unfit (andThen (valuesFrom 0 bs) (listFrom (length bs) 0 0 ws)) (scan (valueIn bs) 0 0 (clausesOf ws))

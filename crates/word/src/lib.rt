@@ -4,7 +4,7 @@ ghost use mathlib.Core.Bool.{true, false};
 ghost use Prim.Native.Nat.{_+_, _≤_};
 ghost use Rattle.word.specs.Word.{kind, payload, domainEnd, boolean, negated, lastBoolean, literalWord, lastCount, endWord, ofBytes};
 ghost use Rattle.word.specs.Padded.{cleared};
-ghost use Rattle.word.specs.Edge.{to, edgeWord, edgeBoolean, edgeOf};
+ghost use Rattle.word.specs.Edge.{to, edgeWord, edgeIn, edgeBoolean, edgeOf};
 
 // A Boolean variable, from 1.
 pub struct Variable(pub u32);
@@ -24,6 +24,12 @@ pub enum Child {
 
 // The words of a node's record in the flat table.
 pub const RECORD: usize = 4;
+
+// The most nodes that a table is filled with, however long it is.
+pub const NODES: usize = 65536;
+
+// The greatest Boolean that a literal can hold.
+pub const LAST_BOOLEAN: u32 = 536870911;
 
 // The top two bits of a word.
 pub fn kind_of(w: u32) -> u32
@@ -101,6 +107,19 @@ pub fn edge_word(c: Child) -> u32
         Child::True => 0xC0000001,
         Child::Node(k) => k.0 as u32,
     }
+}
+
+// The end of an edge, from its word.
+pub fn child_of(w: u32) -> Child
+    ensures { λ r. ⌜ edgeOf r ≡ edgeIn w ⌝ }
+{
+    if w == 0xC0000000 {
+        return Child::False;
+    }
+    if w == 0xC0000001 {
+        return Child::True;
+    }
+    Child::Node(NodeNumber(w as usize))
 }
 
 // The numbering formula: node k is Boolean D + 3 + k, after D order Booleans, T and F.

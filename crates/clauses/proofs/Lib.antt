@@ -1,4 +1,0 @@
-pub mod Writing
-pub mod Turns
-pub mod Reading
-pub mod Laws

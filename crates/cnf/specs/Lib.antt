@@ -1,4 +1,0 @@
-pub mod Text
-pub mod Claim
-pub mod Written
-pub mod Reply

@@ -1,0 +1,2 @@
+-- Laws of the branches of a step.
+pub mod Branches

@@ -1,0 +1,117 @@
+-- THE REPLY BY ITS TESTS: the diagram's own counts from the sum over its records, which test decides, and the reply with its lists. Assumes nothing.
+use mathlib.Core.Path.{_≡_, sym, ap, subst}
+use mathlib.Core.List.{List}
+use Prim.Native.Nat.{ℕ, _+_, _*_, _-_, _≤_, _<_}
+use native.Mathlib.Omega.{arith}
+use lib.ListN.{length}
+use borrow.Author.Tests.{lt-ltb, le-ltb}
+use Rattle.word.specs.Word.{lastBoolean}
+use Rattle.word.specs.Edge.{Edge}
+use Rattle.refusal.specs.declared.Refusal.{Refusal}
+use Rattle.refusal.specs.declared.Refusal.the-variants.{TooManyNodes, TooManyEdges, TooManyWords, TooManyBooleans}
+use Rattle.diagram.proofs.Terms.{levels-length}
+use Rattle.word.specs.Record.{used}
+use Rattle.diagram.specs.Flat.{edgeCount}
+use Rattle.diagram.specs.Constraint.{Constraint}
+use Rattle.encoding.specs.Boolean.{orders}
+use Rattle.encoding.specs.Pattern.{wordCount}
+use Rattle.constraint.specs.Lent.{termsOf, Lent}
+use Rattle.constraint.proofs.Slices.{levels-count}
+use Rattle.linker.specs.Sum.{endSum, Countable}
+use Rattle.linker.proofs.Laws.{order-words, table-countable, edge-sum, word-sum}
+use Rattle.filler.specs.declared.Counts.{Counts}
+use Rattle.encoder_levels.specs.declared.Encoded.{Encoded}
+use Rattle.encoder_levels.specs.declared.Encoded.the-variants.{Accepted, Refused}
+use Rattle.encoder_levels.specs.Reply.{capacity, countsWithin}
+use Rattle.filler.specs.Filled.{levelsIn, nodesFor, constraintOf, countsBy, Tabled, Roomy, Filled}
+use Rattle.encoder_levels.specs.Passes.{Cleared, Answered}
+
+-- ---- The tests, over any constraint
+
+abbrev pub countsOf : Constraint → Counts
+countsOf c = record { nodes = length (nodesFor c); edges = edgeCount (levelsIn c) (nodesFor c); words = wordCount (levelsIn c) (nodesFor c) }
+
+module _ (c : Constraint) (t e w : ℕ) where
+  pub refuse-6 : capacity t < length (nodesFor c) → countsWithin c t e w ≡ Refused TooManyNodes
+  unfolding countsWithin
+  refuse-6 h = rw (lt-ltb (capacity t) (length (nodesFor c)) h)
+
+  module _ (h : length (nodesFor c) ≤ capacity t) where
+    pub refuse-7 : e < edgeCount (levelsIn c) (nodesFor c) → countsWithin c t e w ≡ Refused TooManyEdges
+    unfolding countsWithin
+    refuse-7 k = rw (le-ltb (capacity t) (length (nodesFor c)) h, lt-ltb e (edgeCount (levelsIn c) (nodesFor c)) k)
+
+    module _ (k : edgeCount (levelsIn c) (nodesFor c) ≤ e) where
+      pub refuse-8 : w < wordCount (levelsIn c) (nodesFor c) → countsWithin c t e w ≡ Refused TooManyWords
+      unfolding countsWithin
+      refuse-8 l = rw (le-ltb (capacity t) (length (nodesFor c)) h, le-ltb e (edgeCount (levelsIn c) (nodesFor c)) k, lt-ltb w (wordCount (levelsIn c) (nodesFor c)) l)
+
+      module _ (l : wordCount (levelsIn c) (nodesFor c) ≤ w) where
+        pub refuse-9 : lastBoolean < orders (levelsIn c) + 2 + length (nodesFor c) → countsWithin c t e w ≡ Refused TooManyBooleans
+        unfolding countsWithin
+        refuse-9 m =
+            rw (le-ltb (capacity t) (length (nodesFor c)) h, le-ltb e (edgeCount (levelsIn c) (nodesFor c)) k, le-ltb w (wordCount (levelsIn c) (nodesFor c)) l, lt-ltb lastBoolean (orders (levelsIn c) + 2 + length (nodesFor c)) m)
+
+        pub accept : orders (levelsIn c) + 2 + length (nodesFor c) ≤ lastBoolean → countsWithin c t e w ≡ Accepted (countsOf c)
+        unfolding countsWithin
+        accept m =
+            rw (le-ltb (capacity t) (length (nodesFor c)) h, le-ltb e (edgeCount (levelsIn c) (nodesFor c)) k, le-ltb w (wordCount (levelsIn c) (nodesFor c)) l, le-ltb lastBoolean (orders (levelsIn c) + 2 + length (nodesFor c)) m)
+
+-- a reply with zeroed lists, and one with filled lists
+pub refused-answer : (c : Constraint) (x : Refusal) (t e w t′ e′ w′ : List ℕ) (r : Encoded) → countsWithin c (length t) (length e) (length w) ≡ Refused x
+    → Cleared x t e w t′ e′ w′ r → Answered c t e w t′ e′ w′ r
+refused-answer c x t e w t′ e′ w′ r q C =
+    subst (Answered c t e w t′ e′ w′) (sym (C .reply)) (record { reply = sym q; table = C .table; edges = C .edges; clauses = C .clauses })
+
+pub accepted-answer : (c : Constraint) (n : Counts) (t e w t′ e′ w′ : List ℕ) → countsWithin c (length t) (length e) (length w) ≡ Accepted n
+    → Filled c t e w t′ e′ w′ → Answered c t e w t′ e′ w′ (Accepted n)
+accepted-answer c n t e w t′ e′ w′ q F = record { reply = sym q; table = F .table; edges = F .edges; clauses = F .clauses }
+
+-- ---- The counts from the sum over the records
+
+module _ {cs ds rs : List ℕ} (L : Lent cs ds rs) {a D : ℕ} {t : List ℕ} {count : ℕ} {e : Edge} (B : Tabled (constraintOf cs ds a) D e t count) where
+  abbrev c : Constraint
+  c = constraintOf cs ds a
+
+  pub countable : Countable ds t count
+  countable = table-countable cs ds rs L 0 a t count (B .few) (B .room) (B .records)
+
+  pub ends-le : length ds ≤ D
+  ends-le = omega (arith, order-words (termsOf cs ds) (L .limited) .1, levels-length (termsOf cs ds), levels-count cs ds rs L, L .ends, B .booleans)
+
+  pub nodes-fit : length (nodesFor c) ≤ capacity (length t)
+  nodes-fit = omega (arith, B .counted, B .few, B .room)
+
+  -- the counts that the code computes are the diagram's
+  pub counts-are : countsBy ds D (used t count) count ≡ countsOf c
+  counts-are =
+      let p : count ≡ length (nodesFor c) = B .counted in
+      let q : count + endSum ds (used t count) ≡ edgeCount (levelsIn c) (nodesFor c) = omega (arith, edge-sum cs ds rs L (nodesFor c) (used t count) 0 (B .records), B .counted) in
+      let r : 3 * (D - length ds) + 6 + 3 * count + 4 * endSum ds (used t count) ≡ wordCount (levelsIn c) (nodesFor c) =
+      omega (arith, word-sum cs ds rs L (nodesFor c) (used t count) 0 (B .records), B .counted, B .booleans, levels-count cs ds rs L, L .ends) in
+      λ i. record { nodes = p i; edges = q i; words = r i }
+
+-- equal counts agree in each part
+pub same-nodes : {m n : Counts} → m ≡ n → m .nodes ≡ n .nodes
+same-nodes is = ap (λ (x : Counts). x .nodes) is
+
+pub same-edges : {m n : Counts} → m ≡ n → m .edges ≡ n .edges
+same-edges is = ap (λ (x : Counts). x .edges) is
+
+pub same-words : {m n : Counts} → m ≡ n → m .words ≡ n .words
+same-words is = ap (λ (x : Counts). x .words) is
+
+-- the diagram's counts, where they find room
+pub roomy : (c : Constraint) (n : Counts) (es ws : List ℕ) → n ≡ countsOf c → n .edges ≤ length es → n .words ≤ length ws → Roomy c n es ws
+roomy c n es ws is h k =
+    record {
+      nodes = same-nodes is;
+      edges = same-edges is;
+      words = same-words is;
+      wide = subst (λ (x : Counts). x .edges ≤ length es) is h;
+      long = subst (λ (x : Counts). x .words ≤ length ws) is k;
+    }
+
+-- a table of so many nodes, by another name of their number
+pub renumbered : (c : Constraint) (D : ℕ) (e : Edge) (t : List ℕ) {m n : ℕ} → m ≡ n → Tabled c D e t n → Tabled c D e t m
+renumbered c D e t is B = subst (Tabled c D e t) (sym is) B

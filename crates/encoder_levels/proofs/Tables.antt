@@ -1,0 +1,78 @@
+-- THE BUILT TABLE inside the lent one: the diagram's records stand at its front, whatever stands behind the capacity. Assumes nothing.
+use mathlib.Core.Path.{_≡_, sym, ap, ap₂, _∙_}
+use mathlib.Core.List.{List, _++_, map}
+use Prim.Native.Nat.{ℕ, _+_, _*_, _-_, _/_, _≤_, _<_}
+use native.Mathlib.Omega.{arith}
+use lib.IntN.{pos}
+use lib.ListN.{length, take, drop, length-append, length-take, length-drop}
+use Rattle.word.specs.Edge.{T, to}
+use Rattle.refusal.specs.declared.Refusal.the-variants.{TooManyNodes}
+use Rattle.diagram.specs.Level.{R}
+use Rattle.diagram.specs.Table.{table}
+use Rattle.diagram.specs.Flat.{recordOf, tableWords}
+use Rattle.encoding.specs.Boolean.{orders}
+use Rattle.encoding.specs.Pattern.{clauseWords}
+use Rattle.constraint.specs.Lent.{levelsOf}
+use Rattle.builder.specs.Built.{DiagramBuilt}
+use Rattle.encoder_levels.specs.declared.Encoded.{Encoded}
+use Rattle.encoder_levels.specs.Reply.{capacity, countsWithin}
+use Rattle.filler.specs.Filled.{nodesFor, rootFor, constraintOf, Tabled}
+use Rattle.encoder_levels.specs.Passes.{Cleared, leftIn, Answered}
+use Rattle.encoder_levels.proofs.Root.{root-T, root-to}
+use Rattle.filler.proofs.Lists.{used-append}
+use Rattle.encoder_levels.proofs.Answers.{refuse-6, refused-answer}
+
+-- the part of the table that may be filled
+pub part-length : (t : List ℕ) → capacity (length t) * 4 ≡ length (take (capacity (length t) * 4) t)
+part-length t = omega (arith, length-take (capacity (length t) * 4) t)
+
+-- the table with that part replaced is as long
+pub whole-length : (t t′ : List ℕ) (k : ℕ) → k ≡ capacity (length t) → length t′ ≡ length (take (k * 4) t) → length (t′ ++ drop (k * 4) t) ≡ length t
+whole-length t t′ k e l = omega (arith, length-append t′ (drop (k * 4) t), length-drop (k * 4) t, length-take (k * 4) t)
+
+module _ (cs ds : List ℕ) (a D : ℕ) (is : D ≡ orders (levelsOf cs ds)) where
+  -- a decided bound
+  pub tabled-T : (t : List ℕ) → R (levelsOf cs ds) ≤ a → Tabled (constraintOf cs ds a) D T t 0
+  tabled-T t h =
+      let r = root-T (levelsOf cs ds) a h in
+      record {
+        booleans = is;
+        root = sym (r .0);
+        few = omega arith;
+        room = omega arith;
+        counted = ap length (sym (r .1));
+        records = ap (map (recordOf 0)) (sym (r .1));
+      }
+
+  -- an undecided bound
+  pub tabled-node : (t t′ : List ℕ) (k n : ℕ) → k ≡ capacity (length t) → DiagramBuilt (levelsOf cs ds) a (take (k * 4) t) t′ n → Tabled (constraintOf cs ds a) D (to 0) (t′ ++ drop (k * 4) t) n
+  tabled-node t t′ k n e W =
+      let l = W .flat .long in
+      let m = W .flat .room in
+      record {
+        booleans = is;
+        root = sym (root-to (levelsOf cs ds) a (W .undecided));
+        few = omega (arith, length-take (k * 4) t);
+        room = omega (arith, length-append t′ (drop (k * 4) t));
+        counted = W .count;
+        records = used-append t′ (drop (k * 4) t) n m ∙ W .records;
+      }
+
+-- of the table and the clause buffer an answer depends on the lengths alone
+pub same-answer : (cs ds : List ℕ) (a : ℕ) (t u e w v t′ e′ w′ : List ℕ) (r : Encoded) → length u ≡ length t → length v ≡ length w → Answered (constraintOf cs ds a) u e v t′ e′ w′ r
+    → Answered (constraintOf cs ds a) t e w t′ e′ w′ r
+same-answer cs ds a t u e w v t′ e′ w′ r l m A =
+    record {
+      reply = A .reply ∙ ap₂ (λ (n k : ℕ). countsWithin (constraintOf cs ds a) n (length e) k) l m;
+      table = A .table ∙ ap (λ (n : ℕ). leftIn r n (tableWords (nodesFor (constraintOf cs ds a)))) l;
+      edges = A .edges;
+      clauses = A .clauses ∙ ap (λ (n : ℕ). leftIn r n (clauseWords (levelsOf cs ds) (rootFor (constraintOf cs ds a)) (nodesFor (constraintOf cs ds a)))) m;
+    }
+
+-- more nodes than the capacity
+pub full-answer : (cs ds : List ℕ) (a k : ℕ) (t u e w v t′ e′ w′ : List ℕ) (r : Encoded) → k ≡ capacity (length t) → length (take (k * 4) t) / 4 < length (table (levelsOf cs ds) (pos a)) → length u ≡ length t
+    → length v ≡ length w → Cleared TooManyNodes u e v t′ e′ w′ r → Answered (constraintOf cs ds a) t e w t′ e′ w′ r
+full-answer cs ds a k t u e w v t′ e′ w′ r q h l m C =
+    same-answer cs ds a t u e w v t′ e′ w′ r l m
+    (refused-answer (constraintOf cs ds a) TooManyNodes u e v t′ e′ w′ r
+    (refuse-6 (constraintOf cs ds a) (length u) (length e) (length v) (omega (arith, length-take (k * 4) t))) C)

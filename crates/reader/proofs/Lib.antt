@@ -1,4 +1,0 @@
--- Laws of the branches of a step, of the loop over the bytes, and of the promise.
-pub mod Branches
-pub mod Loop
-pub mod Once

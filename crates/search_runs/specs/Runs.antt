@@ -1,0 +1,67 @@
+-- TWO RUNS OF RECORDS in one table: the first m records, in order, and those from m up to count, in order. Read together they are one list in order.
+-- Assumes nothing.
+use mathlib.Core.Path.{_≡_}
+use mathlib.Core.Logic.{_⊎_}
+use mathlib.Core.List.{List, [], _∷_, _++_}
+use mathlib.Core.Bool.{Bool, cond}
+use Prim.Native.Nat.{ℕ, zero, suc, _+_, _-_, _*_, _≤_}
+use lib.Dec.{ltb}
+use lib.ListN.{length, take, drop, getD}
+use Rattle.word.specs.Record.{Record, records, noRecord, used, Among}
+use Rattle.finder.specs.Find.{gapIn, key}
+use Rattle.search_ordered.specs.Order.{Before, Sorted}
+use Rattle.search_store.specs.Insert.{insertAt}
+
+-- The second run: the records from m up to count.
+abbrev pub run : List ℕ → ℕ → ℕ → List Record
+run t m count = take (count - m) (drop m (records t))
+
+-- Level and lower end of a record as one number.
+abbrev pub lowerKey : Record → ℕ
+lowerKey x = key (x .level) (x .lower)
+
+-- x comes after y: by level, then by lower end.
+abbrev pub after : Record → Record → Bool
+after x y = ltb (lowerKey y) (lowerKey x)
+
+-- The first i records of xs and the first j of ys as one list: of the two last ones, the later stands last.
+unfoldable pub merge : List Record → List Record → ℕ → ℕ → List Record
+merge xs ys zero j = take j ys
+merge xs ys (suc i) zero = take (suc i) xs
+merge xs ys (suc i) (suc j) =
+    cond (after (getD xs i noRecord) (getD ys j noRecord)) (merge xs ys i (suc j) ++ (getD xs i noRecord ∷ [])) (merge xs ys (suc i) j ++ (getD ys j noRecord ∷ []))
+
+-- The records of both runs as one list.
+abbrev pub bothRuns : List ℕ → ℕ → ℕ → List Record
+bothRuns t m count = merge (used t m) (run t m count) m (count - m)
+
+-- Every record of the one lies before or after every record of the other.
+abbrev pub Apart : List Record → List Record → Type 0
+Apart xs ys = (x y : Record) → Among x xs → Among y ys → Before x y ⊎ Before y x
+
+-- Both runs lie in the table and are in order, and the second fits into w words.
+pub record Runs (t : List ℕ) (m count w : ℕ) : Type 0 where
+  pub room : count * 4 ≤ length t
+  pub mid : m ≤ count
+  pub few : count * 4 ≤ m * 4 + w
+  pub main : Sorted (used t m)
+  pub pending : Sorted (run t m count)
+
+-- The first count records are both runs as one list; no word behind them has changed.
+pub record Merged (t : List ℕ) (m count : ℕ) (t′ : List ℕ) : Type 0 where
+  pub merged : used t′ count ≡ bothRuns t m count
+  pub beyond : drop (count * 4) t′ ≡ drop (count * 4) t
+  pub long : length t′ ≡ length t
+
+-- The table is as it was, or its runs are merged; the first run has k records, and in the second there is room for one more within w words.
+pub record Settled (t : List ℕ) (m count w : ℕ) (t′ : List ℕ) (k : ℕ) : Type 0 where
+  pub within : k ≤ count
+  pub free : count * 4 + 4 ≤ k * 4 + w
+  pub long : length t′ ≡ length t
+  pub way : ((k ≡ m) × (t′ ≡ t)) ⊎ ((k ≡ count) × Merged t m count t′)
+
+-- A record was put into the second run, at the gap of the remainder r.
+pub record PutIn (t : List ℕ) (m count level r lower upper : ℕ) (t′ : List ℕ) : Type 0 where
+  pub main : used t′ m ≡ used t m
+  pub pending : run t′ m (count + 1) ≡ insertAt (gapIn (run t m count) level r) (record { level = level; lower = lower; upper = upper; first = 0 }) (run t m count)
+  pub long : length t′ ≡ length t

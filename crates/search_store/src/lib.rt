@@ -1,0 +1,76 @@
+// Records stored in a flat table, copied, and put in between others.
+use word::RECORD;
+ghost use mathlib.Core.Path.{_≡_};
+ghost use mathlib.Core.List.{_++_};
+ghost use Prim.Native.Nat.{_+_, _-_, _*_, _≤_};
+ghost use lib.ListN.{length, take, drop, getD};
+ghost use Rattle.word.specs.Record.{records, noRecord, used, putRecord};
+ghost use Rattle.search_store.specs.Insert.{insertAt};
+
+// Copies words to the beginning of others.
+pub fn copy_words(from: &[u32], to: &mut [u32])
+    requires { ⌜ length (now from) ≤ length (now to) ⌝ }
+    ensures { λ _. ⌜ take (length (now (from .entry))) (now (to .exit)) ≡ now (from .entry) ⌝ }
+{
+    let mut k = 0;
+    while k < from.len() {
+        to[k] = from[k];
+        k += 1;
+    }
+}
+
+// Stores a record at number k.
+pub fn store_record(table: &mut [u32], k: usize, level: u32, lower: u32, upper: u32, first: u32)
+    requires { ⌜ k * 4 + 4 ≤ length (now table) ⌝ }
+    ensures { λ _. ⌜ now (table .exit) ≡ putRecord (now (table .entry)) k (record { level = level; lower = lower; upper = upper; first = first }) ⌝ }
+{
+    let b = k * RECORD;
+    table[b] = level;
+    table[b + 1] = lower;
+    table[b + 2] = upper;
+    table[b + 3] = first;
+}
+
+// Copies record `from` of the table to number `to`. All four words are read before one is stored, which lets the compiler move them at once.
+pub fn move_record(table: &mut [u32], from: usize, to: usize)
+    requires { ⌜ (from * 4 + 4 ≤ length (now table)) × (to * 4 + 4 ≤ length (now table)) ⌝ }
+    ensures { λ _. ⌜ now (table .exit) ≡ putRecord (now (table .entry)) to (getD (records (now (table .entry))) from noRecord) ⌝ }
+{
+    let b = from * RECORD;
+    let level = table[b];
+    let lower = table[b + 1];
+    let upper = table[b + 2];
+    let first = table[b + 3];
+    store_record(table, to, level, lower, upper, first);
+}
+
+// Copies record `from` of the other words to number `to` of the table.
+pub fn copy_record(table: &mut [u32], s: &[u32], from: usize, to: usize)
+    requires { ⌜ (from * 4 + 4 ≤ length (now s)) × (to * 4 + 4 ≤ length (now table)) ⌝ }
+    ensures { λ _. ⌜ now (table .exit) ≡ putRecord (now (table .entry)) to (getD (records (now (s .entry))) from noRecord) ⌝ }
+{
+    let b = from * RECORD;
+    store_record(table, to, s[b], s[b + 1], s[b + 2], s[b + 3]);
+}
+
+// Makes room for a record at place b: moves the words from there up to n, n not included, up by one record.
+fn make_room(table: &mut [u32], b: usize, n: usize)
+    requires { ⌜ (b ≤ n) × (n + 4 ≤ length (now table)) ⌝ }
+    ensures { λ _. ⌜ now (table .exit) ≡ take (b + 4) (now (table .entry)) ++ (take (n - b) (drop b (now (table .entry))) ++ drop (n + 4) (now (table .entry))) ⌝ }
+{
+    let mut i = n;
+    while b < i {
+        i -= 1;
+        table[i + RECORD] = table[i];
+    }
+}
+
+// Puts a record with the fourth word 0 at number p of the first `count` records, moves those from p on up by one, and keeps the words past them.
+pub fn insert(table: &mut [u32], count: usize, p: usize, level: u32, lower: u32, upper: u32)
+    requires { ⌜ (p ≤ count) × (count * 4 + 4 ≤ length (now table)) ⌝ }
+    ensures { λ _. ⌜ (used (now (table .exit)) (count + 1) ≡ insertAt p (record { level = level; lower = lower; upper = upper; first = 0 }) (used (now (table .entry)) count))
+        × (drop (count * 4 + 4) (now (table .exit)) ≡ drop (count * 4 + 4) (now (table .entry))) ⌝ }
+{
+    make_room(table, p * RECORD, count * RECORD);
+    store_record(table, p, level, lower, upper, 0);
+}
