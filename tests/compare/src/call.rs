@@ -1,6 +1,6 @@
-//! One encoding call on both sides, over lent memory full of rubbish, and how a difference is told.
+//! One encoding call of the archive and of the reference, over lent memory full of rubbish, and how a difference is told.
 
-use crate::lent::Lent;
+use crate::lent::{rubbish, Lent, SIDES};
 use archive::Encoded;
 use reference::constraint::Refusal;
 use reference::encode::{encode, Build, Counts};
@@ -34,21 +34,26 @@ pub fn reply_of(told: Result<Counts, Refusal>) -> Encoded {
     }
 }
 
-/// Calls both encoders with lists of these lengths, and compares replies, every lent word and the words around them.
+/// Calls both encoders with lists of these lengths, ours with the unreadable page on each side in turn, and compares replies, every lent word and the margins.
 pub fn both(r: &mut Random, build: Build, words: &[u32], lengths: [usize; 3]) -> Given {
-    let mut ours = lengths.map(|n| Lent::new(r, n, |w| w));
-    let mut other = ours.clone();
-    let [t, e, c] = &mut ours;
-    let reply = archive::encode(words, t.list(), e.list(), c.list());
-    let [t, e, c] = &mut other;
-    let wanted = reply_of(encode(build, words, t.list(), e.list(), c.list()));
-    let input = || format!("words {}\nlengths {lengths:?}\narchive   {reply:?}\nreference {wanted:?}", hex(words));
-    if reply != wanted {
-        differ("reply of the encoder", input());
+    let before = lengths.map(|n| rubbish(r, n, |w| w));
+    let mut after = before.clone();
+    let [t, e, c] = &mut after;
+    let reply = reply_of(encode(build, words, t, e, c));
+    for side in SIDES {
+        let lent = Lent::new(side, words);
+        let mut lists = before.each_ref().map(|list| Lent::new(side, list));
+        let [t, e, c] = &mut lists;
+        let ours = archive::encode(lent.list(), t.list_mut(), e.list_mut(), c.list_mut());
+        let input = || format!("words {}\nlengths {lengths:?}, page {side:?}\narchive   {ours:?}\nreference {reply:?}", hex(words));
+        if ours != reply {
+            differ("reply of the encoder", input());
+        }
+        lent.same(words, "constraint words", input);
+        for (k, name) in ["table", "edge list", "clause list"].iter().enumerate() {
+            lists[k].same(&after[k], name, input);
+        }
     }
-    for (k, name) in ["table", "edge list", "clause list"].iter().enumerate() {
-        ours[k].same(&other[k], name, input);
-    }
-    let [mut t, mut e, mut c] = ours;
-    Given { reply, table: t.list().to_vec(), edges: e.list().to_vec(), clauses: c.list().to_vec() }
+    let [table, edges, clauses] = after;
+    Given { reply, table, edges, clauses }
 }

@@ -1,6 +1,7 @@
 //! The file comparer.
 
 use crate::call::{differ, hex};
+use crate::lent::{Lent, Side};
 use archive::Compared;
 use reference::random::Random;
 
@@ -68,7 +69,7 @@ pub struct Tally {
 }
 
 impl Tally {
-    /// Calls the comparer on both sides and counts the reply.
+    /// Calls both comparers and counts the reply.
     fn compare(&mut self, bytes: &[u8], words: &[u32]) {
         let reply = both(bytes, words);
         let kind = match reply.word as usize {
@@ -81,24 +82,32 @@ impl Tally {
     }
 }
 
-/// The comparer on both sides, and ours with the bytes at four places in memory, one byte apart; gives the reply.
+/// The comparer of the archive and of the reference; gives the reply. With the page before them, the bytes also begin one to three bytes behind it, so that they
+/// lie at four places in memory, one byte apart.
 fn both(bytes: &[u8], words: &[u32]) -> Compared {
     let wanted = match reference::compare::compare(bytes, words) {
         Ok(()) => YES,
         Err(word) => no(word),
     };
-    for before in 0..4 {
-        let mut room = vec![0xA5; before];
-        room.extend(bytes);
-        let ours = archive::compare(&room[before..], words);
+    let file = [&[0xA5; 3], bytes].concat();
+    for (side, from) in [(Side::Behind, 0), (Side::Before, 0), (Side::Before, 1), (Side::Before, 2), (Side::Before, 3)] {
+        let (room, list) = (&file[3 - from..], Lent::new(side, words));
+        let lent = Lent::new(side, room);
+        let ours = archive::compare(&lent.list()[from..], list.list());
+        let input = || {
+            let words = hex(words);
+            format!("bytes {bytes:02X?} words {words}\npage {side:?}, {from} bytes away\narchive {ours:?} reference {wanted:?}")
+        };
         if ours != wanted {
-            differ("the file comparer", format!("bytes {bytes:02X?} words {}\narchive {ours:?} reference {wanted:?}", hex(words)));
+            differ("the file comparer", input());
         }
+        lent.same(room, "the file comparer's bytes", input);
+        list.same(words, "the file comparer's words", input);
     }
     wanted
 }
 
-/// Compares both sides with a reply that is known; gives 1, for counting.
+/// Compares both replies with one that is known; gives 1, for counting.
 fn told(bytes: &[u8], words: &[u32], wanted: Compared) -> u64 {
     let reply = both(bytes, words);
     if reply != wanted {

@@ -1,4 +1,4 @@
-//! DIMACS text, written and read: replies, every lent byte and word, and the guards around them, on both sides.
+//! DIMACS text, written and read by the archive and by the reference: replies, every lent byte and word, and the margins.
 
 pub mod cases;
 pub mod places;
@@ -7,13 +7,12 @@ mod texts;
 
 use crate::call::{differ, hex};
 use crate::inputs::{damage_list, large};
-use crate::lent::Lent;
+use crate::lent::{rubbish, Element, Lent, SIDES};
 use archive::Text;
 use reference::clauses::clauses;
 use reference::constraint::Refusal;
 use reference::maps;
 use reference::random::Random;
-use std::fmt::UpperHex;
 
 /// A call from one list into another: ours, the reference's, an element of rubbish, and how an input is shown.
 pub struct Call<I, T> {
@@ -37,22 +36,27 @@ pub const READ: Call<u8, u32> = Call {
     shown: |text| text.escape_ascii().to_string(),
 };
 
-impl<I, T: Copy + PartialEq + UpperHex> Call<I, T> {
-    /// Calls both sides over the same rubbish of `room` elements; gives the reply and what was made.
+impl<I: Element, T: Element> Call<I, T> {
+    /// Makes both calls over the same rubbish of `room` elements; gives the reply and what was made.
     pub fn both(&self, r: &mut Random, input: &[I], room: usize) -> (Text, Vec<T>) {
-        let mut ours = Lent::new(r, room, self.rubbish);
-        let mut other = ours.clone();
-        let reply = (self.ours)(input, ours.list());
-        let wanted = match (self.other)(input, other.list()) {
+        let before = rubbish(r, room, self.rubbish);
+        let mut after = before.clone();
+        let reply = match (self.other)(input, &mut after) {
             Ok(length) => Text { number: 0, place: 0, length },
             Err(x) => Text { number: x.number, place: x.place, length: 0 },
         };
-        let told = || format!("{}\nroom {room}\narchive   {reply:?}\nreference {wanted:?}", (self.shown)(input));
-        if reply != wanted {
-            differ(self.name, told());
+        for side in SIDES {
+            let (lent, mut list) = (Lent::new(side, input), Lent::new(side, &before));
+            let ours = (self.ours)(lent.list(), list.list_mut());
+            let told = || format!("{}\nroom {room}, page {side:?}\narchive   {ours:?}\nreference {reply:?}", (self.shown)(input));
+            if ours != reply {
+                differ(self.name, told());
+            }
+            lent.same(input, self.name, told);
+            list.same(&after, self.name, told);
         }
-        ours.same(&other, self.name, told);
-        (reply, ours.list()[..reply.length as usize].to_vec())
+        after.truncate(reply.length as usize);
+        (reply, after)
     }
 
     /// Ends the program unless the fact about this input holds.
@@ -86,7 +90,7 @@ impl Tally {
     }
 
     /// Calls with more than enough room and, around what that makes, with just enough, one element less and none; gives what is made.
-    fn rooms<I, T: Copy + PartialEq + UpperHex>(&mut self, r: &mut Random, call: &Call<I, T>, input: &[I], ample: usize) -> Option<Vec<T>> {
+    fn rooms<I: Element, T: Element>(&mut self, r: &mut Random, call: &Call<I, T>, input: &[I], ample: usize) -> Option<Vec<T>> {
         let (reply, made) = call.both(r, input, ample);
         self.call(reply, input.len());
         let lengths = if reply.number == 0 { vec![made.len(), made.len().saturating_sub(1), 0] } else { vec![r.below(4) as usize] };

@@ -24,7 +24,7 @@ fn labels(g: &Given) -> Vec<(u32, u32, u32)> {
     g.table.chunks_exact(4).take(g.reply.nodes as usize).map(|r| (r[0], r[1], r[2])).collect()
 }
 
-/// One exercise on both sides, with both ways to build; its counts of nodes and words are the specification's.
+/// One exercise, asked of the archive and of the reference with both its ways to build; its counts of nodes and words are the specification's.
 fn exercise(r: &mut Random, name: &str, terms: &[(u32, u32)], bound: u32, nodes: u64, count: u64) -> Given {
     let w = words(terms, bound);
     both(r, maps::build, &w, ROOM);

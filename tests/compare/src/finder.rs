@@ -2,6 +2,7 @@
 
 use crate::call::{both, differ, hex};
 use crate::inputs::constraint;
+use crate::lent::{Lent, SIDES};
 use archive::{Found, Node};
 use reference::random::Random;
 use reference::{maps, sums};
@@ -11,14 +12,24 @@ fn nodes(table: &[u32]) -> Vec<Node> {
     table.chunks_exact(4).map(|w| Node { level: w[0], lower: w[1], upper: w[2], first: w[3] }).collect()
 }
 
-/// The finder on both sides, and ours over the flat table and over its records; true where it finds.
+/// The finder of the archive, over the flat table and over its records, and of the reference; true where it finds.
 pub fn find_both(table: &[u32], level: u32, remainder: u32) -> bool {
     let other = reference::find::find(table, level, remainder);
     let (Ok(number) | Err(number)) = other;
     let wanted = Found { found: other.is_ok() as u64, number };
-    let ours = [archive::find(table, level, remainder), archive::find_node(&nodes(table), level, remainder)];
-    if ours != [wanted; 2] {
-        differ("the finder", format!("level {level} remainder {remainder} table {}\narchive {ours:?} reference {wanted:?}", hex(table)));
+    let nodes = nodes(table);
+    for side in SIDES {
+        let (flat, records) = (Lent::new(side, table), Lent::new(side, &nodes));
+        let ours = [archive::find(flat.list(), level, remainder), archive::find_node(records.list(), level, remainder)];
+        let told = || {
+            let table = hex(table);
+            format!("level {level} remainder {remainder} table {table}\npage {side:?}\narchive {ours:?} reference {wanted:?}")
+        };
+        if ours != [wanted; 2] {
+            differ("the finder", told());
+        }
+        flat.same(table, "the finder's table", told);
+        records.same(&nodes, "the finder's records", told);
     }
     other.is_ok()
 }

@@ -1,4 +1,6 @@
-//! Compares the proved archive and the programs with the separately written implementation: replies, every lent word, every printed byte. The seed is fixed, so a difference can be met again.
+//! Compares the proved archive and the programs with the separately written implementation: replies, every lent word, every printed byte.
+//! Every list lent to the archive lies at an unreadable page: a call is made with the pages behind the last elements and again with the pages before the
+//! first ones, so that a read or write outside a list stops the program. The seed is fixed, so a difference, or a stop, can be met again.
 
 mod call;
 mod capacity;
@@ -7,6 +9,7 @@ mod dimacs;
 mod encoder;
 mod exercises;
 mod finder;
+mod guarded;
 mod inputs;
 mod lent;
 mod program;

@@ -2,6 +2,7 @@
 
 use crate::call::{differ, hex};
 use crate::inputs::{constraint, damage_list};
+use crate::lent::{Lent, SIDES};
 use archive::Tested;
 use reference::random::Random;
 use reference::sums;
@@ -60,7 +61,7 @@ pub struct Tally {
 }
 
 impl Tally {
-    /// Calls the tester on both sides and counts the reply.
+    /// Calls both testers and counts the reply.
     fn test(&mut self, values: &[u8], list: &[u32]) {
         let reply = both(values, list);
         self.numbers[if reply.verdict == 2 { reply.number } else { reply.verdict } as usize] += 1;
@@ -68,21 +69,27 @@ impl Tally {
     }
 }
 
-/// The tester on both sides; gives the reply.
+/// The tester of the archive and of the reference; gives the reply.
 fn both(values: &[u8], list: &[u32]) -> Tested {
-    let ours = archive::test(values, list);
     let wanted = match reference::test::test(values, list) {
         Verdict::AllTrue => Tested { verdict: 0, number: 0, place: 0 },
         Verdict::False { clause, place } => Tested { verdict: 1, number: clause, place },
         Verdict::Refused(x) => Tested { verdict: 2, number: x.number, place: x.place },
     };
-    if ours != wanted {
-        differ("the clause tester", format!("values {values:?} list {}\narchive {ours:?} reference {wanted:?}", hex(list)));
+    for side in SIDES {
+        let (lent, clauses) = (Lent::new(side, values), Lent::new(side, list));
+        let ours = archive::test(lent.list(), clauses.list());
+        let told = || format!("values {values:?} list {}\npage {side:?}\narchive {ours:?} reference {wanted:?}", hex(list));
+        if ours != wanted {
+            differ("the clause tester", told());
+        }
+        lent.same(values, "the clause tester's values", told);
+        clauses.same(list, "the clause tester's list", told);
     }
     wanted
 }
 
-/// Compares both sides with the replies of the specification; gives how many.
+/// Compares both replies with that of the specification; gives how many.
 pub fn cases() -> u64 {
     for (values, list, [verdict, number, place]) in CASES {
         let wanted = Tested { verdict: *verdict, number: *number, place: *place };

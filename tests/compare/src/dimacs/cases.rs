@@ -1,4 +1,4 @@
-//! DIMACS texts and clause lists with what the specification says of them, each on both sides.
+//! DIMACS texts and clause lists with what the specification says of them, each asked of the archive and of the reference.
 
 use super::{READ, WRITE};
 use reference::random::Random;

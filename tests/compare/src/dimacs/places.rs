@@ -1,6 +1,8 @@
 //! The place of refusal 16 by its own definition, asked of the archive alone: some legal text begins with the bytes before the place, and none with those up to and with it.
 
 use super::{texts, READ};
+use crate::lent::{Lent, SIDES};
+use archive::Text;
 
 /// Ends that complete every beginning of a legal text of the small kind: the rest of a header, or of a comment or a literal, and the clauses that are missing.
 fn ends() -> Vec<Vec<u8>> {
@@ -10,9 +12,16 @@ fn ends() -> Vec<Vec<u8>> {
     headers.chain(clauses).collect()
 }
 
+/// The archive's reply to a text, which is the same with the unreadable page on each side in turn.
+fn reply(text: &[u8]) -> Text {
+    let [behind, before] = SIDES.map(|side| archive::read(Lent::new(side, text).list(), Lent::new(side, &[0; 24]).list_mut()));
+    READ.hold(behind == before, "another reply with the page on the other side", text);
+    behind
+}
+
 /// Whether the archive takes the bytes with one of these ends behind them for legal text.
 fn completed(bytes: &[u8], ends: &[Vec<u8>]) -> bool {
-    ends.iter().any(|end| archive::read(&[bytes, end].concat(), &mut [0; 24]).number != 16)
+    ends.iter().any(|end| reply(&[bytes, end].concat()).number != 16)
 }
 
 /// Checks the place of every refused text of the small kind; gives how many there are.
@@ -20,7 +29,7 @@ pub fn defined(most: u32) -> u64 {
     let ends = ends();
     let mut refused = 0;
     for text in texts::every(most) {
-        let reply = archive::read(&text, &mut [0; 24]);
+        let reply = reply(&text);
         if reply.number != 16 {
             continue;
         }
