@@ -21,12 +21,11 @@ use Rattle.diagram.proofs.Written.{records-length, record-at, place-inside, edg
 use Rattle.encoding.specs.Boolean.{orders, ordersBefore}
 use Rattle.encoding.specs.Pattern.{ordersOf, unitsOf, nodesOf, clauseWords, wordCount}
 use Rattle.encoding.proofs.Fits.{words-count}
-use Rattle.word.proofs.Flat.{recordAt, records-length as table-length}
+use Rattle.word.proofs.Flat.{recordAt, records-length as table-length, used-at}
 use Rattle.clause_buffer.specs.Written.{Room, WroteWords}
 use Rattle.clause_writer.specs.Drawing.{Drawing, Listed}
 use Rattle.clause_buffer.specs.Ended.{ended}
 use Rattle.clause_writer.specs.Held.{endAt, childWords, nodeFrom, nodesHeld, Sound, Held}
-use Rattle.clause_writer.proofs.Turns.{used-at}
 
 -- ---- Levels by their domain ends
 
@@ -136,13 +135,13 @@ module _ {ls : List Level} {ns : List Node} {ds : List ℕ} {D : ℕ} {t : List 
 
   record-is : (k : ℕ) → k < count → recordAt t k ≡ recordOf (0 + firstPlace ns k) (nodeAt ns k)
   record-is k h =
-      sym (used-at t count long k noRecord h)
+      sym (used-at t count long k h)
       ∙ ap (λ (xs : List Record). getD xs k noRecord) (d .records)
       ∙ record-at 0 ns k (omega (arith, d .counted))
 
   node-is : (k : ℕ) → k < count → nodeFrom ds es (recordAt t k) ≡ nodeAt ns k
   node-is k h =
-      ap (nodeFrom ds es) (sym (used-at t count long k noRecord h))
+      ap (nodeFrom ds es) (sym (used-at t count long k h))
       ∙ sym (map-at (nodeFrom ds es) (used t count) k noNode noRecord (omega (arith, ap length (d .records), records-length 0 ns, d .counted)))
       ∙ ap (λ (xs : List Node). getD xs k noNode) nodes-held
 

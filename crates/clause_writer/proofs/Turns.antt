@@ -1,6 +1,6 @@
 -- The turns of the loops: what is left to write from one level, value, node or child on is its clauses, and what is left from the next on.
 -- Assumes nothing.
-use mathlib.Core.Path.{_≡_, sym, ap, subst, _∙_}
+use mathlib.Core.Path.{_≡_, sym, ap, subst}
 use mathlib.Core.List.{List, [], _∷_, map}
 use mathlib.Core.Bool.{true, false}
 use Prim.Native.Nat.{ℕ, zero, suc, _+_, _*_, _-_, _≤_, _<_}
@@ -8,16 +8,16 @@ use native.Mathlib.Nat.{not-suc-le-zero, le-of-suc-le-suc}
 use native.Mathlib.Numerals.{add-one}
 use native.Mathlib.Omega.{arith}
 use lib.ListN.{length, getD, take, drop, length-take, length-drop, drop-of-length-le}
-use lib.Seq.{drop-cons, getD-take}
+use lib.Seq.{drop-cons}
 use Rattle.word.specs.Word.{lastBoolean, boolean, literalWord, endWord}
 use Rattle.word.specs.Edge.{to, edgeBoolean, edgeIn}
-use Rattle.word.specs.Record.{Record, records, used}
+use Rattle.word.specs.Record.{Record, used, noRecord}
 use Rattle.word.proofs.Kept.{Parts}
 use Rattle.clause.specs.Meaning.{wordsOf}
 use Rattle.clause.proofs.Written.{words-append}
 use Rattle.encoding.specs.Boolean.{orders, ordersBefore}
 use Rattle.encoding.specs.Pattern.{childrenOf, nodeOf, nodesOf}
-use Rattle.word.proofs.Flat.{records-length, record-at, recordAt}
+use Rattle.word.proofs.Flat.{recordAt, used-length, used-at}
 use Rattle.clause_buffer.specs.Ended.{ended}
 use Rattle.clause_writer.specs.Held.{endAt, childWords, nodeFrom, Numbered, Held}
 
@@ -67,13 +67,6 @@ children-none D n b ws j h = ap (λ (l : List ℕ). wordsOf (childrenOf D n (b +
 
 -- ---- The clauses of the nodes
 
-module _ (t : List ℕ) (count : ℕ) (long : count * 4 ≤ length t) where
-  pub used-length : length (used t count) ≡ count
-  used-length = length-take count (records t) ∙ omega (arith, records-length t)
-
-  pub used-at : (k : ℕ) (x : Record) → k < count → getD (used t count) k x ≡ recordAt t k
-  used-at k x h = getD-take count (records t) k x h ∙ record-at t k x (omega (arith, records-length t))
-
 -- of the nodes from one on
 abbrev pub nodesLeft : List ℕ → ℕ → List ℕ → ℕ → List ℕ → ℕ → List ℕ
 nodesLeft ds D t count es k = wordsOf (nodesOf (ended ds) D k (map (nodeFrom ds es) (drop k (used t count))))
@@ -99,11 +92,11 @@ module _ {ds : List ℕ} {D : ℕ} {t : List ℕ} {count : ℕ} {es : List ℕ} 
       → Parts (nodesLeft ds D t count es k) (wordsOf (nodeOf D (edgeBoolean D (to k)) (suc b) (map edgeIn (part ds es (recordAt t k)))))
       (nodesLeft ds D t count es (k + 1))
   nodes-turn k {b} h e =
-      let x : Record = recordAt [] 0 in
+      let x : Record = noRecord in
       let n : k < length (used t count) = omega (arith, used-length t count (held .long)) in
       record {
         joined =
-            rw (drop-cons (used t count) k x n, used-at t count (held .long) k x h, add-one k, e, part-is ds es (recordAt t k))
+            rw (drop-cons (used t count) k x n, used-at t count (held .long) k h, add-one k, e, part-is ds es (recordAt t k))
             (words-append (nodeOf D (edgeBoolean D (to k)) (suc (ordersBefore (ended ds) (getD t (k * 4) 0 - 1))) (map edgeIn (childWords ds es (recordAt t k))))
             (nodesOf (ended ds) D (suc k) (map (nodeFrom ds es) (drop (suc k) (used t count)))));
       }
