@@ -5,7 +5,8 @@ use mathlib.Core.List.{List}
 use Prim.Native.Nat.{ℕ, suc, _+_, _*_, _-_, _≤_, _<_}
 use native.Mathlib.Omega.{arith}
 use lib.ListN.{length, getD, set}
-use Rattle.word.specs.Record.{used}
+use Rattle.word.specs.Record.{used, mostNodes}
+use Rattle.diagram.specs.Constraint.{mostTerms, lastEnd, lastCoefficient}
 use Rattle.search_ordered.specs.Order.{Sorted}
 use Rattle.word.proofs.Flat.{used-length}
 use Rattle.constraint.specs.Lent.{Lent}
@@ -18,13 +19,13 @@ use Rattle.linker.proofs.Children.{ready}
 use Rattle.linker.proofs.Turns.{OneEnd, one-end, alike-set, Turn, row-fits}
 
 pub record Facts (cs ds rs : List ℕ) (count : ℕ) (t es : List ℕ) (first k : ℕ) : Type 0 where
-  pub few : length cs ≤ 64
+  pub few : length cs ≤ mostTerms
   pub ends-long : length ds ≡ length cs
   pub rests-long : length rs ≡ suc (length cs)
   pub countable : Countable ds t count
   pub here : OneEnd ds t k
-  pub coef-small : getD cs (getD t (k * 4) 0 - 1) 0 ≤ 65535
-  pub first-small : first ≤ 1048576
+  pub coef-small : getD cs (getD t (k * 4) 0 - 1) 0 ≤ lastCoefficient
+  pub first-small : first ≤ (lastEnd + 1) * mostNodes
   pub fits : first + (getD ds (getD t (k * 4) 0 - 1) 0 + 1) ≤ length es
   pub sorted : Sorted (used (set t (k * 4 + 3) first) count)
 

@@ -9,7 +9,7 @@ use lib.ListN.{length, getD, length-map}
 use Rattle.word.specs.Record.{Record, noRecord, used, mostNodes}
 use Rattle.diagram.specs.Table.{Node, noNode}
 use Rattle.diagram.specs.Claim.{nodeAt, levelAt, OfLevel}
-use Rattle.diagram.specs.Constraint.{Term, levels, AllLimited}
+use Rattle.diagram.specs.Constraint.{Term, levels, lastEnd, AllLimited}
 use Rattle.diagram.specs.Flat.{recordOf, edgeCount}
 use Rattle.diagram.proofs.Places.{map-at}
 use Rattle.diagram.proofs.Whole.{whole}
@@ -29,8 +29,8 @@ dom-is (c ∷ cs) [] i e = absurd (omega arith)
 dom-is (c ∷ cs) (d ∷ ds) zero e = refl
 dom-is (c ∷ cs) (d ∷ ds) (suc i) e = dom-is cs ds i (omega arith)
 
--- a sum of n domain ends is at most 15 × n
-pub sum-fits : (ds : List ℕ) (xs : List Record) → EndsFit ds → Levelled (length ds) xs → endSum ds xs ≤ 15 * length xs
+-- a sum of n domain ends is at most n times the greatest
+pub sum-fits : (ds : List ℕ) (xs : List Record) → EndsFit ds → Levelled (length ds) xs → endSum ds xs ≤ lastEnd * length xs
 unfolding endSum
 sum-fits ds [] f v = omega arith
 sum-fits ds (x ∷ xs) f v =

@@ -13,6 +13,7 @@ use borrow.Author.Tests.{le-leb, lt-leb}
 use Rattle.word.specs.Edge.{F, T, edgeWord}
 use Rattle.word.specs.Record.{Record, records, noRecord, used}
 use Rattle.word.proofs.Kept.{rest-later}
+use Rattle.diagram.specs.Constraint.{lastEnd}
 use Rattle.diagram.specs.Table.{row}
 use Rattle.diagram.proofs.Places.{row-at, row-length}
 use Rattle.diagram.proofs.Same.{sub-pos, sub-neg}
@@ -102,7 +103,7 @@ module _ (t : List ℕ) (count : ℕ) (room : count * 4 ≤ length t) (k : ℕ) 
 pub record OneEnd (ds t : List ℕ) (k : ℕ) : Type 0 where
   pub low : 1 ≤ getD t (k * 4) 0
   pub high : getD t (k * 4) 0 ≤ length ds
-  pub small : getD ds (getD t (k * 4) 0 - 1) 0 ≤ 15
+  pub small : getD ds (getD t (k * 4) 0 - 1) 0 ≤ lastEnd
 
 pub one-end : {ds t : List ℕ} {count : ℕ} {k : ℕ} → Countable ds t count → k < count → OneEnd ds t k
 one-end {ds} {t} {count} {k} C h =

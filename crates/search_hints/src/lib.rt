@@ -1,21 +1,20 @@
 // Where in the first run the record of a remainder may stand: a guess, by counts that the lent words keep behind those for merging. For each level they count the
 // records that end before each part of the remainders. Whoever uses a guess tests it; no promise rests on these functions, so all that they promise is
 // to keep within the lists.
+use constraint::Constraint;
 use word::RECORD;
 use word::Remainder;
 ghost use mathlib.Core.Path.{_≡_};
 ghost use mathlib.Core.Bool.{true};
 ghost use Prim.Native.Nat.{_+_, _*_, _≤_, _<_};
 ghost use lib.ListN.{length};
+ghost use Rattle.search_hints.specs.Level.{levelWords};
 
 // The most records of the second run.
 pub const LONGEST: usize = 512;
 
 // The words for merging, as many as the longest second run has. Behind them stands the number of levels that are counted.
 const MERGING: usize = LONGEST * RECORD;
-
-// The most levels that are counted; those behind are searched without a guess.
-const LEVELS: usize = 64;
 
 // The bits of a part's number.
 const BITS: u32 = 9;
@@ -35,18 +34,18 @@ fn shift(most: u32) -> u32 {
 
 // Sets the counts of a level whose words begin at a place to 0, and its shift by the greatest remainder.
 fn prepare_level(work: &mut [u32], at: usize, most: u32)
-    requires { ⌜ at + 515 ≤ length (now work) ⌝ }
+    requires { ⌜ at + levelWords ≤ length (now work) ⌝ }
 {
     word::clear(&mut work[at..at + LEVEL], 0);
     work[at + 1] = shift(most);
 }
 
-// Sets each level's words, as far as there is room.
+// Sets the words of each level that a constraint can have, as far as there is room.
 pub fn prepare(work: &mut [u32], rests: &[u32])
     ensures { λ _. ⌜ length (now (work .exit)) ≡ length (now (work .entry)) ⌝ }
 {
     let mut i = 0;
-    while i < LEVELS {
+    while i < Constraint::TERMS {
         let at = MERGING + 1 + i * LEVEL;
         if work.len() < at + LEVEL {
             return;
@@ -95,7 +94,7 @@ fn count_level(
     level: u32,
     at: usize,
 ) -> usize
-    requires { ⌜ (count * 4 ≤ length (now table)) × (at + 515 ≤ length (now work)) ⌝ }
+    requires { ⌜ (count * 4 ≤ length (now table)) × (at + levelWords ≤ length (now work)) ⌝ }
 {
     let bits = work[at + 1] % 32;
     let mut e = k;

@@ -12,6 +12,10 @@ use Rattle.finder.specs.Find.{gapIn, key}
 use Rattle.search_ordered.specs.Order.{Before, Sorted}
 use Rattle.search_store.specs.Insert.{insertAt}
 
+-- The most records that the second run may have.
+abbrev pub longest : ℕ
+longest = 512
+
 -- The second run: the records from m up to count.
 abbrev pub run : List ℕ → ℕ → ℕ → List Record
 run t m count = take (count - m) (drop m (records t))

@@ -14,7 +14,7 @@ ghost use lib.ListN.{length};
 ghost use Rattle.word.specs.Record.{used};
 ghost use Rattle.search_ordered.specs.Order.{Sorted};
 ghost use Rattle.finder.specs.Find.{Missing, findIn};
-ghost use Rattle.search_runs.specs.Runs.{run, Merged, Settled, PutIn};
+ghost use Rattle.search_runs.specs.Runs.{longest, run, Merged, Settled, PutIn};
 
 // Sets the lent words for an empty table of levels whose greatest remainders are given.
 pub fn prepare(work: &mut [u32], rests: &[u32])
@@ -71,7 +71,7 @@ pub fn merge(table: &mut [u32], work: &mut [u32], main: usize, count: usize)
 
 // How many records the second run may have: the longer the first run is, the more records a merge moves.
 fn limit(main: usize) -> usize
-    ensures { λ n. ⌜ n ≡ min (16 + main / 24) 512 ⌝ }
+    ensures { λ n. ⌜ n ≡ min (16 + main / 24) longest ⌝ }
 {
     let most = 16 + main / 24;
     if most < LONGEST { most } else { LONGEST }

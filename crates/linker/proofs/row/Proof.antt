@@ -10,6 +10,7 @@ use lib.ListN.{length, length-set}
 use lib.Seq.{paste, paste-zero}
 use Rattle.word.specs.Edge.{edgeWord}
 use Rattle.word.specs.Record.{used}
+use Rattle.diagram.specs.Constraint.{lastEnd}
 use Rattle.word.proofs.Flat.{used-length}
 use Rattle.linker.specs.Row.{leadsTo, rowOf}
 use Rattle.linker.proofs.Children.{leads-fit}
@@ -64,7 +65,7 @@ slice-write-edges c = search needs
 
 add-taken : tie.Need-add-taken Inv-loop μ-loop
 add-taken c =
-    let h : c .before .before .before .before .loop .j ≤ 15 = omega arith in
+    let h : c .before .before .before .before .loop .j ≤ lastEnd = omega arith in
     omega (arith, mul-le-mul-left (c .before .before .before .before .before .before .before .args .coef) h)
 
 add-j : tie.Need-add-j Inv-loop μ-loop

@@ -6,13 +6,14 @@ use native.Mathlib.Omega.{arith}
 use mathlib.Core.Path.{_≡_}
 use lib.ListN.{drop}
 use Rattle.word.specs.Record.{used}
+use Rattle.diagram.specs.Constraint.{lastEnd}
 use Rattle.linker.specs.Sum.{endSum}
 use Rattle.linker.proofs.Turns.{one-end, sum-turn, sum-end}
 use Rattle.linker.proofs.sum_ends.Statement.{statement}
 use Rattle.linker.proofs.sum_ends.Tie as tie
 
 abbrev Inv-loop : tie.InvT-loop
-Inv-loop ends table count sum₀ k₀ sum k = (k ≤ count) × (sum ≤ 15 * k) × (sum + endSum ends (drop k (used table count)) ≡ endSum ends (used table count))
+Inv-loop ends table count sum₀ k₀ sum k = (k ≤ count) × (sum ≤ lastEnd * k) × (sum + endSum ends (drop k (used table count)) ≡ endSum ends (used table count))
 
 abbrev μ-loop : tie.MeasureT-loop
 μ-loop ends table count sum₀ k₀ sum k = count - k

@@ -5,11 +5,12 @@ use mathlib.Core.Path.{_≡_}
 use native.Mathlib.Omega.{arith}
 use lib.ListN.{length}
 use borrow.Author.Needs.{needs}
+use Rattle.search_hints.specs.Level.{levelWords}
 use Rattle.search_hints.proofs.count_level.Statement.{statement}
 use Rattle.search_hints.proofs.count_level.Tie as tie
 
 abbrev Inv-loop : tie.InvT-loop
-Inv-loop table work₀ count k level at bits e₀ n₀ from₀ work e n from = (length work ≡ length work₀) × (at + 515 ≤ length work₀)
+Inv-loop table work₀ count k level at bits e₀ n₀ from₀ work e n from = (length work ≡ length work₀) × (at + levelWords ≤ length work₀)
 
 abbrev μ-loop : tie.MeasureT-loop
 μ-loop table work₀ count k level at bits e₀ n₀ from₀ work e n from = count - e

@@ -5,14 +5,15 @@ use mathlib.Core.Path.{_≡_, _∙_}
 use native.Mathlib.Omega.{arith}
 use lib.ListN.{length, length-set}
 use borrow.Author.Needs.{needs}
+use Rattle.diagram.specs.Constraint.{mostTerms}
 use Rattle.search_hints.proofs.prepare.Statement.{statement}
 use Rattle.search_hints.proofs.prepare.Tie as tie
 
 abbrev Inv-loop : tie.InvT-loop
-Inv-loop work₀ rests i₀ work i = (length work ≡ length work₀) × (i ≤ 64)
+Inv-loop work₀ rests i₀ work i = (length work ≡ length work₀) × (i ≤ mostTerms)
 
 abbrev μ-loop : tie.MeasureT-loop
-μ-loop work₀ rests i₀ work i = 64 - i
+μ-loop work₀ rests i₀ work i = mostTerms - i
 
 loop-holds : tie.Need-loop-holds Inv-loop μ-loop
 loop-holds c = search needs
