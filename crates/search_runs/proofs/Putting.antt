@@ -1,10 +1,10 @@
 -- A RECORD PUT INTO THE SECOND RUN: the words from the second run on as records, and the table with other words there. Assumes nothing.
-use mathlib.Core.Path.{_≡_, ap, _∙_}
-use mathlib.Core.List.{List, [], _++_, append-nil}
+use mathlib.Core.Path.{_≡_, sym, ap, _∙_}
+use mathlib.Core.List.{List, _++_, append-nil}
 use Prim.Native.Nat.{ℕ, _+_, _-_, _*_, _≤_}
 use native.Mathlib.Omega.{arith}
 use lib.ListN.{length, take, drop, length-drop, drop-of-length-le}
-use lib.Seq.{take-at, take-all, drop-at, length-take-le}
+use lib.Seq.{take-at, take-all, drop-at, drop-drop, length-take-le}
 use borrow.Rule.Slice.PartMut.{putMid, same-len-mid}
 use Rattle.word.specs.Record.{Record, records, used}
 use Rattle.finder.specs.Find.{gapIn}
@@ -20,31 +20,46 @@ module _ (t : List ℕ) (m count : ℕ) (mid : m ≤ count) (room : count * 4 + 
   pub tail-length : length tail ≡ length t - m * 4
   tail-length = length-take-le (length t - m * 4) (drop (m * 4) t) (omega (arith, length-drop (m * 4) t))
 
+  tail-is : tail ≡ drop (m * 4) t
+  tail-is = take-all (length t - m * 4) (drop (m * 4) t) (omega (arith, length-drop (m * 4) t))
+
   pub tail-used : used tail (count - m) ≡ run t m count
-  tail-used =
-      let all : tail ≡ drop (m * 4) t = take-all (length t - m * 4) (drop (m * 4) t) (omega (arith, length-drop (m * 4) t)) in
-      ap (λ (l : List ℕ). used l (count - m)) all ∙ ap (take (count - m)) (records-drop m t)
+  tail-used = ap (λ (l : List ℕ). used l (count - m)) tail-is ∙ ap (take (count - m)) (records-drop m t)
 
   -- The table with ys from the second run on.
   abbrev changed : List ℕ → List ℕ
   changed ys = putMid (m * 4) (length t - m * 4) t ys
 
+  changed-is : (ys : List ℕ) → changed ys ≡ take (m * 4) t ++ ys
+  changed-is ys =
+      let h : length (drop (m * 4) t) ≤ length t - m * 4 = omega (arith, length-drop (m * 4) t) in
+      rw (drop-of-length-le (drop (m * 4) t) h, append-nil)
+
+  front-length : length (take (m * 4) t) ≡ m * 4
+  front-length = length-take-le (m * 4) t (omega arith)
+
   changed-records : (ys : List ℕ) → records (changed ys) ≡ take m (records t) ++ records ys
   changed-records ys =
-      let h : length (drop (m * 4) t) ≤ length t - m * 4 = omega (arith, length-drop (m * 4) t) in
-      let none : drop (length t - m * 4) (drop (m * 4) t) ≡ [] = drop-of-length-le (drop (m * 4) t) h in
-      let whole : changed ys ≡ take (m * 4) t ++ ys = ap (λ (q : List ℕ). take (m * 4) t ++ (ys ++ q)) none ∙ ap (λ (q : List ℕ). take (m * 4) t ++ q) (append-nil ys) in
-      ap records whole
-      ∙ records-append m (take (m * 4) t) ys (length-take-le (m * 4) t (omega arith))
-      ∙ ap (λ (q : List Record). q ++ records ys) (records-take m t)
+      ap records (changed-is ys) ∙ records-append m (take (m * 4) t) ys front-length ∙ ap (λ (q : List Record). q ++ records ys) (records-take m t)
+
+  -- Where ys are as the table's own words from a place on, so is the table.
+  changed-beyond : (ys : List ℕ) (n : ℕ) → drop n ys ≡ drop n tail → drop (m * 4 + n) (changed ys) ≡ drop (m * 4 + n) t
+  changed-beyond ys n e =
+      sym (drop-drop n (m * 4) (changed ys))
+      ∙ ap (drop n) (ap (drop (m * 4)) (changed-is ys) ∙ drop-at (take (m * 4) t) ys (m * 4) front-length)
+      ∙ e
+      ∙ ap (drop n) tail-is
+      ∙ drop-drop n (m * 4) t
 
   pub put-in : (level r lower upper p : ℕ) (ys : List ℕ) → p ≡ gapIn (used tail (count - m)) level r
       → used ys (count - m + 1) ≡ insertAt p (recordFrom level lower upper 0) (used tail (count - m))
+      → drop ((count - m) * 4 + 4) ys ≡ drop ((count - m) * 4 + 4) tail
       → length ys ≡ length tail
       → PutIn t m count level r lower upper (changed ys)
-  put-in level r lower upper p ys is put long =
+  put-in level r lower upper p ys is put past long =
       let first : length (take m (records t)) ≡ m = length-take-le m (records t) (omega (arith, records-length t)) in
       let n : count + 1 - m ≡ count - m + 1 = omega arith in
+      let behind : count * 4 + 4 ≡ m * 4 + ((count - m) * 4 + 4) = omega arith in
       record {
         main = ap (take m) (changed-records ys) ∙ take-at (take m (records t)) (records ys) m first;
         pending =
@@ -54,5 +69,6 @@ module _ (t : List ℕ) (m count : ℕ) (mid : m ≤ count) (room : count * 4 + 
             ∙ put
             ∙ ap (λ (k : ℕ). insertAt k (recordFrom level lower upper 0) (used tail (count - m))) is
             ∙ ap (λ (xs : List Record). insertAt (gapIn xs level r) (recordFrom level lower upper 0) xs) tail-used;
+        beyond = rw behind (changed-beyond ys ((count - m) * 4 + 4) past);
         long = same-len-mid (m * 4) (length t - m * 4) t ys long;
       }

@@ -7,12 +7,13 @@ use mathlib.Core.Bool.{Bool, true, false, cond}
 use Prim.Native.Nat.{ℕ, zero, suc, _+_, _-_, _*_, _≤_}
 use native.Mathlib.Omega.{arith}
 use lib.ListN.{length, getD, take, drop, length-append, length-drop}
-use lib.Seq.{take-suc, take-all, take-take, take-add, length-take-le}
+use lib.Seq.{take-suc, take-all, take-take, take-add, take-at, length-take-le}
 use borrow.Author.Tests.{ltb-true, ltb-false}
 use Rattle.word.specs.Record.{Record, records, noRecord, used, Among}
 use Rattle.search_ordered.specs.Order.{Before, Proper, Sorted}
+use Rattle.search_store.specs.Copy.{copied}
 use Rattle.word.proofs.Flat.{records-length, records-take, records-drop, used-length}
-use Rattle.search_runs.specs.Runs.{run, lowerKey, after, merge, bothRuns, Apart, Runs, Merged, Settled}
+use Rattle.search_runs.specs.Runs.{run, runWords, lowerKey, after, merge, bothRuns, Apart, Runs, Merged, Settled}
 use Rattle.search_runs.proofs.Members.{among-left, among-right, among-cases, snoc-from, snoc-to, last-from, last-to, proper-in, sorted-snoc, sorted-unsnoc}
 
 pub merge-zero : (xs ys : List Record) (i : ℕ) → merge xs ys i 0 ≡ take i xs
@@ -128,21 +129,19 @@ run-length t m count h room = length-take-le (count - m) (drop m (records t)) (o
 
 -- The words of the second run, where they lie and where they are copied to.
 module _ (t : List ℕ) (m count : ℕ) (mid : m ≤ count) where
-  run-records : records (take (count * 4 - m * 4) (drop (m * 4) t)) ≡ run t m count
+  run-records : records (runWords t m count) ≡ run t m count
   run-records =
       let n : count * 4 - m * 4 ≡ (count - m) * 4 = omega arith in
       rw n (records-take (count - m) (drop (m * 4) t) ∙ ap (take (count - m)) (records-drop m t))
 
-  pub run-words : used (take (count * 4 - m * 4) (drop (m * 4) t)) (count - m) ≡ run t m count
+  pub run-words : used (runWords t m count) (count - m) ≡ run t m count
   run-words = ap (take (count - m)) run-records ∙ take-take (count - m) (count - m) (drop m (records t)) (omega arith)
 
-  pub run-copied : count * 4 ≤ length t → (s : List ℕ)
-      → take (length (take (count * 4 - m * 4) (drop (m * 4) t))) s ≡ take (count * 4 - m * 4) (drop (m * 4) t)
-      → used s (count - m) ≡ run t m count
-  run-copied room s e =
-      let n : length (take (count * 4 - m * 4) (drop (m * 4) t)) ≡ (count - m) * 4 =
-      length-take-le (count * 4 - m * 4) (drop (m * 4) t) (omega (arith, length-drop (m * 4) t)) ∙ omega arith in
-      sym (records-take (count - m) s) ∙ ap records (ap (λ (k : ℕ). take k s) (sym n) ∙ e) ∙ run-records
+  pub run-copied : count * 4 ≤ length t → (s w : List ℕ) → s ≡ copied (runWords t m count) w → used s (count - m) ≡ run t m count
+  run-copied room s w e =
+      let ws : List ℕ = runWords t m count in
+      let n : length ws ≡ (count - m) * 4 = length-take-le (count * 4 - m * 4) (drop (m * 4) t) (omega (arith, length-drop (m * 4) t)) ∙ omega arith in
+      sym (records-take (count - m) s) ∙ ap records (ap (take ((count - m) * 4)) e ∙ take-at ws (drop (length ws) w) ((count - m) * 4) n) ∙ run-records
 
 module _ (t : List ℕ) (m count w : ℕ) (rs : Runs t m count w) where
   main-length : length (used t m) ≡ m

@@ -20,6 +20,10 @@ longest = 512
 abbrev pub run : List ℕ → ℕ → ℕ → List Record
 run t m count = take (count - m) (drop m (records t))
 
+-- The words of the second run.
+abbrev pub runWords : List ℕ → ℕ → ℕ → List ℕ
+runWords t m count = take (count * 4 - m * 4) (drop (m * 4) t)
+
 -- Level and lower end of a record as one number.
 abbrev pub lowerKey : Record → ℕ
 lowerKey x = key (x .level) (x .lower)
@@ -64,8 +68,9 @@ pub record Settled (t : List ℕ) (m count w : ℕ) (t′ : List ℕ) (k : ℕ) 
   pub long : length t′ ≡ length t
   pub way : ((k ≡ m) × (t′ ≡ t)) ⊎ ((k ≡ count) × Merged t m count t′)
 
--- A record was put into the second run, at the gap of the remainder r.
+-- A record was put into the second run, at the gap of the remainder r; no word before the run or behind the record's place has changed.
 pub record PutIn (t : List ℕ) (m count level r lower upper : ℕ) (t′ : List ℕ) : Type 0 where
   pub main : used t′ m ≡ used t m
   pub pending : run t′ m (count + 1) ≡ insertAt (gapIn (run t m count) level r) (record { level = level; lower = lower; upper = upper; first = 0 }) (run t m count)
+  pub beyond : drop (count * 4 + 4) t′ ≡ drop (count * 4 + 4) t
   pub long : length t′ ≡ length t

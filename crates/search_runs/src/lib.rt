@@ -14,7 +14,8 @@ ghost use lib.ListN.{length};
 ghost use Rattle.word.specs.Record.{used};
 ghost use Rattle.search_ordered.specs.Order.{Sorted};
 ghost use Rattle.finder.specs.Find.{Missing, findIn};
-ghost use Rattle.search_runs.specs.Runs.{longest, run, Merged, Settled, PutIn};
+ghost use Rattle.search_store.specs.Copy.{copied};
+ghost use Rattle.search_runs.specs.Runs.{longest, run, runWords, Merged, Settled, PutIn};
 
 // Sets the lent words for an empty table of levels whose greatest remainders are given.
 pub fn prepare(work: &mut [u32], rests: &[u32])
@@ -58,10 +59,11 @@ pub fn find(
     }
 }
 
-// Merges the two runs into one, by way of the lent words.
+// Merges the two runs into one, by way of the lent words, to which it copies the second.
 pub fn merge(table: &mut [u32], work: &mut [u32], main: usize, count: usize)
     requires { ⌜ (main ≤ count) × (count * 4 ≤ length (now table)) × (count * 4 ≤ main * 4 + length (now work)) ⌝ }
     ensures { λ _. ⌜ Merged (now (table .entry)) main count (now (table .exit)) ⌝ }
+    ensures { λ _. ⌜ now (work .exit) ≡ copied (runWords (now (table .entry)) main count) (now (work .entry)) ⌝ }
 {
     let b = main * RECORD;
     let e = count * RECORD;
@@ -77,10 +79,12 @@ fn limit(main: usize) -> usize
     if most < LONGEST { most } else { LONGEST }
 }
 
-// Merges the runs where the second is as long as it may be; how many records the first run has then.
+// Merges the runs where the second is as long as it may be; how many records the first run has then. What the lent words hold then is left open, as the counts
+// among them are hints.
 pub fn settle(table: &mut [u32], work: &mut [u32], main: usize, count: usize) -> usize
     requires { ⌜ (main ≤ count) × (count * 4 ≤ length (now table)) × (count * 4 ≤ main * 4 + length (now work)) × (4 ≤ length (now work)) ⌝ }
     ensures { λ k. ⌜ Settled (now (table .entry)) main count (length (now (work .entry))) (now (table .exit)) k ⌝ }
+    ensures { λ _. ⌜ length (now (work .exit)) ≡ length (now (work .entry)) ⌝ }
 {
     let pending = count - main;
     if pending < limit(main) {

@@ -5,12 +5,13 @@ ghost use mathlib.Core.List.{_++_};
 ghost use Prim.Native.Nat.{_+_, _-_, _*_, _≤_};
 ghost use lib.ListN.{length, take, drop, getD};
 ghost use Rattle.word.specs.Record.{records, noRecord, used, putRecord};
+ghost use Rattle.search_store.specs.Copy.{copied};
 ghost use Rattle.search_store.specs.Insert.{insertAt};
 
 // Copies words to the beginning of others.
 pub fn copy_words(from: &[u32], to: &mut [u32])
     requires { ⌜ length (now from) ≤ length (now to) ⌝ }
-    ensures { λ _. ⌜ take (length (now (from .entry))) (now (to .exit)) ≡ now (from .entry) ⌝ }
+    ensures { λ _. ⌜ now (to .exit) ≡ copied (now (from .entry)) (now (to .entry)) ⌝ }
 {
     let mut k = 0;
     while k < from.len() {

@@ -20,7 +20,7 @@ settle-requires c κs =
 put-requires : tie.Need-put-requires
 put-requires c κs =
     let s = c .before .before .before .before .before .before .before .before .before .before .before in
-    let S = c .before .before .before .before .before .settle .ensures in
+    let S = c .before .before .before .before .before .settle .ensures .0 in
     let v = settled-both (s .args .table .now) (s .args .main) (s .args .count) (length (s .args .work .now)) _ _ (s .pre .0 .runs) (s .pre .0 .apart) S in
     (S .within, omega (arith, c .before .before .before .before .before .before .before .before .if1 .left, S .long), v .0 .pending, settled-missing (s .args .table .now) (s .args .main) (s .args .count) (length (s .args .work .now)) _ _ (s .pre .0) S (s .args .level) (s .args .r .0) (s .pre .2))
 
@@ -38,7 +38,7 @@ returns-2 c =
     let s = c .before .before .before .before .before .before .before .before .before .before .before .before .before .before in
     record {
       between = c .before .before .before .before .before .before .before .before .settle .last .0;
-      settled = c .before .before .before .before .before .before .before .before .settle .ensures;
+      settled = c .before .before .before .before .before .before .before .before .settle .ensures .0;
       put = c .before .before .put .ensures;
       one = refl;
       same = refl;

@@ -30,7 +30,7 @@ merge-back-requires : tie.Need-merge-back-requires
 merge-back-requires c κs =
     let a = c .before .before .before .before .before .before .before .before .before .before in
     let copied = c .before .before .before .before .copy-words in
-    (a .pre .0, a .pre .1, omega (arith, copied .kept .1 .0, a .pre .2), run-copied (a .args .table .now) (a .args .main) (a .args .count) (a .pre .0) (a .pre .1) (copied .last .1 .0) (copied .ensures))
+    (a .pre .0, a .pre .1, omega (arith, copied .kept .1 .0, a .pre .2), run-copied (a .args .table .now) (a .args .main) (a .args .count) (a .pre .0) (a .pre .1) (copied .last .1 .0) (a .args .work .now) (copied .ensures))
 
 same-length : tie.Need-same-length
 same-length c = search needs

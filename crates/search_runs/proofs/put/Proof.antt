@@ -91,7 +91,7 @@ returns-2 c =
     put-in t m (s .args .count) (s .pre .0) (s .pre .1) (s .args .level) (s .args .r .0) (s .args .lower) (s .args .upper)
     (c .before .before .before .before .before .gap .given .0 .0) (c .before .before .insert .last .0)
     (nothing-gap (used tail (s .args .count - m)) (s .args .level) (s .args .r .0) (c .before .before .before .before .before .gap .given .0 .0) (sym (c .before .before .before .before .before .before .before .find-near .ensures) ∙ c .before .before .before .before .before .gap .given .1))
-    (c .before .before .insert .ensures .0) (c .before .before .insert .kept .0)
+    (c .before .before .insert .ensures .0) (c .before .before .insert .ensures .1) (c .before .before .insert .kept .0)
 
 pub put-spec : {M : Type 1} → statement M
 put-spec =

@@ -19,7 +19,7 @@ mul-if2 : tie.Need-mul-if2
 mul-if2 c = search needs
 
 returns : tie.Need-returns
-returns c = record { within = omega arith; free = omega arith; long = refl; way = inl (refl, refl) }
+returns c = (record { within = omega arith; free = omega arith; long = refl; way = inl (refl, refl) }, refl)
 
 count-run-requires : tie.Need-count-run-requires
 count-run-requires c κs = search needs
@@ -36,7 +36,7 @@ same-length-2 c = search needs
 returns-2 : tie.Need-returns-2
 returns-2 c =
     let merged = c .before .before .before .before .merge in
-    record { within = omega arith; free = omega arith; long = merged .kept .0; way = inr (refl, merged .ensures) }
+    (record { within = omega arith; free = omega arith; long = merged .kept .0; way = inr (refl, merged .ensures .0) }, search needs)
 
 pub settle-spec : {M : Type 1} → statement M
 settle-spec =

@@ -1,24 +1,29 @@
 -- `search_store::copy_words` meets its contract. The loop's invariant: the first k words are copied. The measure is the number of words left. Assumes nothing.
-use Prim.Native.Nat.{ℕ, _+_, _-_, _≤_, _<_}
-use mathlib.Core.Path.{_≡_, sym, ap, _∙_}
-use mathlib.Core.List.{List, [], _∷_, _++_}
+use Prim.Native.Nat.{ℕ, suc, _+_, _-_, _≤_, _<_}
+use mathlib.Core.Path.{_≡_, _∙_}
+use mathlib.Core.List.{List, _++_}
 use native.Mathlib.Numerals.{add-one}
 use native.Mathlib.Omega.{arith}
-use lib.ListN.{length, getD, take, set, length-set}
-use lib.Seq.{take-suc, take-length, take-suc-set}
+use lib.ListN.{length, getD, take, drop, set, length-set}
+use lib.Seq.{drop-cons, take-suc, take-length, append-snoc, set-at, length-take-le}
 use borrow.Author.Needs.{needs}
+use Rattle.search_store.specs.Copy.{copied}
 use Rattle.search_store.proofs.copy_words.Statement.{statement}
 use Rattle.search_store.proofs.copy_words.Tie as tie
 
-copy-step : (to from : List ℕ) (k : ℕ) → k < length from → k < length to → take k to ≡ take k from → take (k + 1) (set to k (getD from k 0)) ≡ take (k + 1) from
-copy-step to from k h l e =
-    rw add-one (take-suc-set to k (getD from k 0) l ∙ ap (λ (q : List ℕ). q ++ (getD from k 0 ∷ [])) e ∙ sym (take-suc from k 0 h))
+-- The first k words replaced.
+abbrev begun : List ℕ → List ℕ → ℕ → List ℕ
+begun s w k = take k s ++ drop k w
 
-copy-end : (to from : List ℕ) (k : ℕ) → k ≡ length from → take k to ≡ take k from → take (length from) to ≡ from
-copy-end to from k e h = let f : take (length from) to ≡ take (length from) from = rw e at h in f ∙ take-length from
+begun-step : (s w : List ℕ) (k : ℕ) → k < length s → k < length w → set (begun s w k) k (getD s k 0) ≡ begun s w (k + 1)
+begun-step s w k h l =
+    rw (add-one, drop-cons w k 0, take-suc s k 0, append-snoc) (set-at (take k s) (getD w k 0) (drop (suc k) w) (getD s k 0) k (length-take-le k s (omega arith)))
+
+begun-end : (s w : List ℕ) (k : ℕ) → k ≡ length s → begun s w k ≡ copied s w
+begun-end s w k e = rw (e, take-length)
 
 abbrev Inv-loop : tie.InvT-loop
-Inv-loop from to₀ k₀ to k = (k ≤ length from) × (length to ≡ length to₀) × (take k to ≡ take k from)
+Inv-loop from to₀ k₀ to k = (k ≤ length from) × (length to ≡ length to₀) × (to ≡ begun from to₀ k)
 
 abbrev μ-loop : tie.MeasureT-loop
 μ-loop from to₀ k₀ to k = length from - k
@@ -47,13 +52,16 @@ loop-less c = search needs
 loop-again : tie.Need-loop-again Inv-loop μ-loop
 loop-again c =
     let l = c .before .before .loop in
-    (omega arith, simp length-set (l .inv .1), copy-step (l .to) (c .before .before .before .args .from .now) (l .k) (omega arith) (omega arith) (l .inv .2))
+    let a = c .before .before .before .args in
+    (omega arith, simp length-set (l .inv .1), rw (l .inv .2) (begun-step (a .from .now) (a .to .now) (l .k) (omega arith) (omega arith)))
 
 same-length : tie.Need-same-length Inv-loop μ-loop
 same-length c = search needs
 
 returns : tie.Need-returns Inv-loop μ-loop
-returns c = copy-end (c .before .loop .to) (c .before .before .args .from .now) (c .before .loop .k) (omega arith) (c .before .loop .inv .2)
+returns c =
+    let a = c .before .before .args in
+    c .before .loop .inv .2 ∙ begun-end (a .from .now) (a .to .now) (c .before .loop .k) (omega arith)
 
 pub copy-words-spec : {M : Type 1} → statement M
 copy-words-spec =
