@@ -2,6 +2,7 @@
 use filler::Counts;
 use refusal::Refusal;
 use word::Child;
+use word::NodeNumber;
 use word::RECORD;
 ghost use mathlib.Core.Path.{_≡_};
 ghost use mathlib.Core.List.{List, _++_, map};
@@ -51,15 +52,15 @@ fn put_children(out: &mut [u8], start: usize, edges: &[u32]) -> usize
 fn put_node(
     out: &mut [u8],
     start: usize,
-    number: usize,
+    number: NodeNumber,
     level: u32,
     lower: u32,
     upper: u32,
     edges: &[u32],
 ) -> usize
-    ensures { λ r. ⌜ Wrote (nodeLine number (record { level = level; lab = record { lower = lower; upper = upper }; children = map edgeIn (now (edges .entry)) })) start (now (out .entry)) (now (out .exit)) r ⌝ }
+    ensures { λ r. ⌜ Wrote (nodeLine (number .0) (record { level = level; lab = record { lower = lower; upper = upper }; children = map edgeIn (now (edges .entry)) })) start (now (out .entry)) (now (out .exit)) r ⌝ }
 {
-    let a = text::put_number(out, start, number);
+    let a = text::put_number(out, start, number.0);
     let b = put_field(out, a, level as usize);
     let c = put_field(out, b, lower as usize);
     let d = put_field(out, c, upper as usize);
@@ -68,13 +69,13 @@ fn put_node(
 }
 
 // The place of a node's first edge; for the number behind the last node, the number of edges.
-fn first_edge(table: &[u32], count: usize, total: usize, k: usize) -> usize
-    requires { ⌜ k ≤ count ⌝ }
+fn first_edge(table: &[u32], count: usize, total: usize, k: NodeNumber) -> usize
+    requires { ⌜ k .0 ≤ count ⌝ }
     requires { ⌜ count * 4 ≤ length (now table) ⌝ }
-    ensures { λ r. ⌜ ((ns : List Node) (es : List ℕ) → Lying ns (now (table .entry)) count es total → r ≡ firstPlace ns k) ⌝ }
+    ensures { λ r. ⌜ ((ns : List Node) (es : List ℕ) → Lying ns (now (table .entry)) count es total → r ≡ firstPlace ns (k .0)) ⌝ }
 {
-    if k < count {
-        table[k * RECORD + 3] as usize
+    if k.0 < count {
+        table[k.0 * RECORD + 3] as usize
     } else {
         total
     }
@@ -96,18 +97,19 @@ fn put_nodes(
     let mut node = 0;
     'nodes: while node < count {
         let b = node * RECORD;
-        let first = first_edge(table, count, total, node);
-        let past = first_edge(table, count, total, node + 1);
+        let next = node + 1;
+        let first = first_edge(table, count, total, NodeNumber(node));
+        let past = first_edge(table, count, total, NodeNumber(next));
         at = put_node(
             out,
             at,
-            node,
+            NodeNumber(node),
             table[b],
             table[b + 1],
             table[b + 2],
             &edges[first..past],
         );
-        node += 1;
+        node = next;
     }
     at
 }

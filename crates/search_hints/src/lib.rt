@@ -2,6 +2,7 @@
 // records that end before each part of the remainders. Whoever uses a guess tests it; no promise rests on these functions, so all that they promise is
 // to keep within the lists.
 use constraint::Constraint;
+use word::NodeNumber;
 use word::RECORD;
 use word::Remainder;
 ghost use mathlib.Core.Path.{_≡_};
@@ -74,14 +75,14 @@ fn add_to(work: &mut [u32], from: usize, up: usize, n: u32)
 }
 
 // Whether record k is one of the first `count` and of the level.
-fn of_level(table: &[u32], count: usize, k: usize, level: u32) -> bool
+fn of_level(table: &[u32], count: usize, k: NodeNumber, level: u32) -> bool
     requires { ⌜ count * 4 ≤ length (now table) ⌝ }
-    ensures { λ b. ⌜ (b ≡ true → k < count) ⌝ }
+    ensures { λ b. ⌜ (b ≡ true → k .0 < count) ⌝ }
 {
-    if count <= k {
+    if count <= k.0 {
         return false;
     }
-    table[k * RECORD] == level
+    table[k.0 * RECORD] == level
 }
 
 // Counts in the records of a level, which are those from number k on; the number behind them. They are in order, so n more end before each part between the n-th
@@ -100,7 +101,7 @@ fn count_level(
     let mut e = k;
     let mut n: u32 = 0;
     let mut from = at + 2;
-    while of_level(table, count, e, level) {
+    while of_level(table, count, NodeNumber(e), level) {
         let up = at + 3 + ((table[e * RECORD + 2] >> bits) % PARTS) as usize;
         add_to(work, from, up, n);
         from = up;
@@ -138,37 +139,44 @@ pub fn count_run(table: &[u32], work: &mut [u32], main: usize, count: usize)
 
 // Where the remainder may stand among the records of a part, which are those from the one count up to the other behind the start of their level; 0 where these do
 // not lie in the run. Many are halved until few are left.
-fn search_part(table: &[u32], main: usize, start: u32, from: u32, up: u32, r: Remainder) -> usize
+fn search_part(
+    table: &[u32],
+    main: usize,
+    start: u32,
+    from: u32,
+    up: u32,
+    r: Remainder,
+) -> NodeNumber
     requires { ⌜ main * 4 ≤ length (now table) ⌝ }
-    ensures { λ p. ⌜ p ≤ main ⌝ }
+    ensures { λ k. ⌜ k .0 ≤ main ⌝ }
 {
     if up < from {
-        return 0;
+        return NodeNumber(0);
     }
     let mut p = start as usize + from as usize;
     let mut left = (up - from) as usize;
     if main < p + left {
-        return 0;
+        return NodeNumber(0);
     }
     while search_ordered::FEW < left {
         let half = left - (left >> 1);
         p = search_ordered::pass(table, p, half, r);
         left -= half;
     }
-    search_ordered::pass_few(table, main, p, r)
+    NodeNumber(search_ordered::pass_few(table, main, p, r))
 }
 
 // The number of the record of the first run that may hold the remainder.
-pub fn guess(table: &[u32], work: &[u32], main: usize, level: u32, r: Remainder) -> usize
+pub fn guess(table: &[u32], work: &[u32], main: usize, level: u32, r: Remainder) -> NodeNumber
     requires { ⌜ main * 4 ≤ length (now table) ⌝ }
-    ensures { λ p. ⌜ p ≤ main ⌝ }
+    ensures { λ k. ⌜ k .0 ≤ main ⌝ }
 {
     if level == 0 {
-        return 0;
+        return NodeNumber(0);
     }
     let at = MERGING + 1 + (level - 1) as usize * LEVEL;
     if work.len() < at + LEVEL {
-        return 0;
+        return NodeNumber(0);
     }
     let x = r.0;
     let part = (x >> (work[at + 1] % 32)) % PARTS;

@@ -105,12 +105,12 @@ fn last_below(table: &[u32], count: usize, n: usize, level: u32, r: Remainder) -
 }
 
 // Whether record p is one of the first `count` and holds the remainder.
-fn hit(table: &[u32], count: usize, p: usize, level: u32, r: Remainder) -> bool
+fn hit(table: &[u32], count: usize, p: NodeNumber, level: u32, r: Remainder) -> bool
     requires { ⌜ count * 4 ≤ length (now table) ⌝ }
-    ensures { λ b. ⌜ b ≡ hits (used (now (table .entry)) count) level (r .0) p ⌝ }
+    ensures { λ b. ⌜ b ≡ hits (used (now (table .entry)) count) level (r .0) (p .0) ⌝ }
 {
-    if p < count {
-        let b = p * RECORD;
+    if p.0 < count {
+        let b = p.0 * RECORD;
         return holds(table[b], table[b + 1], table[b + 2], level, r);
     }
     false
@@ -121,7 +121,7 @@ fn found_at(table: &[u32], count: usize, p: usize, level: u32, r: Remainder) -> 
     requires { ⌜ (count * 4 ≤ length (now table)) × Sorted (used (now table) count) × (p ≡ gapIn (used (now table) count) level (r .0)) ⌝ }
     ensures { λ f. ⌜ f ≡ findIn (used (now (table .entry)) count) level (r .0) ⌝ }
 {
-    if hit(table, count, p, level, r) {
+    if hit(table, count, NodeNumber(p), level, r) {
         return Found::At(NodeNumber(p));
     }
     Found::Nothing(p)
@@ -163,14 +163,14 @@ pub fn find_sorted(table: &[u32], count: usize, level: u32, r: Remainder) -> Fou
 }
 
 // The same reply, whatever the guess is: a record that holds the remainder, and else by way of the gap.
-pub fn find_near(table: &[u32], count: usize, guess: usize, level: u32, r: Remainder) -> Found
+pub fn find_near(table: &[u32], count: usize, guess: NodeNumber, level: u32, r: Remainder) -> Found
     requires { ⌜ (count * 4 ≤ length (now table)) × Sorted (used (now table) count) ⌝ }
     ensures { λ f. ⌜ f ≡ findIn (used (now (table .entry)) count) level (r .0) ⌝ }
 {
     if hit(table, count, guess, level, r) {
-        return Found::At(NodeNumber(guess));
+        return Found::At(guess);
     }
-    let p = gap_near(table, count, guess, level, r);
+    let p = gap_near(table, count, guess.0, level, r);
     found_at(table, count, p, level, r)
 }
 
@@ -229,13 +229,13 @@ fn walk(table: &[u32], count: usize, from: usize, level: u32, r: Remainder) -> u
 }
 
 // The same reply, whatever the cursor is: it is where guesses are looked for, and they are tested. It moves to where the search ends, so that the next, for a
-// remainder that lies a little further on, is short.
+// remainder that lies a little further on, is short. It is a bare number, as the borrow checker covers no reference to a struct.
 pub fn find_from(table: &[u32], count: usize, cursor: &mut usize, level: u32, r: Remainder) -> Found
     requires { ⌜ (count * 4 ≤ length (now table)) × Sorted (used (now table) count) ⌝ }
     ensures { λ f. ⌜ f ≡ findIn (used (now (table .entry)) count) level (r .0) ⌝ }
 {
     let p = pass_few(table, count, *cursor, r);
-    if hit(table, count, p, level, r) {
+    if hit(table, count, NodeNumber(p), level, r) {
         *cursor = p;
         return Found::At(NodeNumber(p));
     }

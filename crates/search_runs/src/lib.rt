@@ -114,8 +114,9 @@ pub fn put(
 {
     let b = main * RECORD;
     let n = count - main;
-    let Found::Nothing(gap) = search_ordered::find_near(&table[b..], n, near, level, r) else {
+    let Found::Nothing(gap) = search_ordered::find_near(&table[b..], n, NodeNumber(near), level, r)
+    else {
         return;
     };
-    search_store::insert(&mut table[b..], n, gap, level, lower, upper);
+    search_store::insert(&mut table[b..], n, NodeNumber(gap), level, lower, upper);
 }

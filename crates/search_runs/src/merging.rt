@@ -2,6 +2,7 @@
 use finder::key_of;
 use search_store::copy_record;
 use search_store::move_record;
+use word::NodeNumber;
 use word::RECORD;
 ghost use mathlib.Core.Path.{_≡_};
 ghost use Prim.Native.Nat.{_+_, _-_, _*_, _≤_};
@@ -34,9 +35,11 @@ pub fn merge_back(table: &mut [u32], s: &[u32], main: usize, count: usize)
         let k = key_of(s[b], s[b + 1]);
         while last_above(table, i, k) {
             i -= 1;
-            move_record(table, i, i + j);
+            let to = i + j;
+            move_record(table, NodeNumber(i), NodeNumber(to));
         }
         j -= 1;
-        copy_record(table, s, j, i + j);
+        let to = i + j;
+        copy_record(table, s, NodeNumber(j), NodeNumber(to));
     }
 }

@@ -1,4 +1,5 @@
 // Records stored in a flat table, copied, and put in between others.
+use word::NodeNumber;
 use word::RECORD;
 ghost use mathlib.Core.Path.{_≡_};
 ghost use mathlib.Core.List.{_++_};
@@ -21,11 +22,18 @@ pub fn copy_words(from: &[u32], to: &mut [u32])
 }
 
 // Stores a record at number k.
-pub fn store_record(table: &mut [u32], k: usize, level: u32, lower: u32, upper: u32, first: u32)
-    requires { ⌜ k * 4 + 4 ≤ length (now table) ⌝ }
-    ensures { λ _. ⌜ now (table .exit) ≡ putRecord (now (table .entry)) k (record { level = level; lower = lower; upper = upper; first = first }) ⌝ }
+pub fn store_record(
+    table: &mut [u32],
+    k: NodeNumber,
+    level: u32,
+    lower: u32,
+    upper: u32,
+    first: u32,
+)
+    requires { ⌜ k .0 * 4 + 4 ≤ length (now table) ⌝ }
+    ensures { λ _. ⌜ now (table .exit) ≡ putRecord (now (table .entry)) (k .0) (record { level = level; lower = lower; upper = upper; first = first }) ⌝ }
 {
-    let b = k * RECORD;
+    let b = k.0 * RECORD;
     table[b] = level;
     table[b + 1] = lower;
     table[b + 2] = upper;
@@ -33,11 +41,11 @@ pub fn store_record(table: &mut [u32], k: usize, level: u32, lower: u32, upper: 
 }
 
 // Copies record `from` of the table to number `to`. All four words are read before one is stored, which lets the compiler move them at once.
-pub fn move_record(table: &mut [u32], from: usize, to: usize)
-    requires { ⌜ (from * 4 + 4 ≤ length (now table)) × (to * 4 + 4 ≤ length (now table)) ⌝ }
-    ensures { λ _. ⌜ now (table .exit) ≡ putRecord (now (table .entry)) to (getD (records (now (table .entry))) from noRecord) ⌝ }
+pub fn move_record(table: &mut [u32], from: NodeNumber, to: NodeNumber)
+    requires { ⌜ (from .0 * 4 + 4 ≤ length (now table)) × (to .0 * 4 + 4 ≤ length (now table)) ⌝ }
+    ensures { λ _. ⌜ now (table .exit) ≡ putRecord (now (table .entry)) (to .0) (getD (records (now (table .entry))) (from .0) noRecord) ⌝ }
 {
-    let b = from * RECORD;
+    let b = from.0 * RECORD;
     let level = table[b];
     let lower = table[b + 1];
     let upper = table[b + 2];
@@ -46,11 +54,11 @@ pub fn move_record(table: &mut [u32], from: usize, to: usize)
 }
 
 // Copies record `from` of the other words to number `to` of the table.
-pub fn copy_record(table: &mut [u32], s: &[u32], from: usize, to: usize)
-    requires { ⌜ (from * 4 + 4 ≤ length (now s)) × (to * 4 + 4 ≤ length (now table)) ⌝ }
-    ensures { λ _. ⌜ now (table .exit) ≡ putRecord (now (table .entry)) to (getD (records (now (s .entry))) from noRecord) ⌝ }
+pub fn copy_record(table: &mut [u32], s: &[u32], from: NodeNumber, to: NodeNumber)
+    requires { ⌜ (from .0 * 4 + 4 ≤ length (now s)) × (to .0 * 4 + 4 ≤ length (now table)) ⌝ }
+    ensures { λ _. ⌜ now (table .exit) ≡ putRecord (now (table .entry)) (to .0) (getD (records (now (s .entry))) (from .0) noRecord) ⌝ }
 {
-    let b = from * RECORD;
+    let b = from.0 * RECORD;
     store_record(table, to, s[b], s[b + 1], s[b + 2], s[b + 3]);
 }
 
@@ -67,11 +75,11 @@ fn make_room(table: &mut [u32], b: usize, n: usize)
 }
 
 // Puts a record with the fourth word 0 at number p of the first `count` records, moves those from p on up by one, and keeps the words past them.
-pub fn insert(table: &mut [u32], count: usize, p: usize, level: u32, lower: u32, upper: u32)
-    requires { ⌜ (p ≤ count) × (count * 4 + 4 ≤ length (now table)) ⌝ }
-    ensures { λ _. ⌜ (used (now (table .exit)) (count + 1) ≡ insertAt p (record { level = level; lower = lower; upper = upper; first = 0 }) (used (now (table .entry)) count))
+pub fn insert(table: &mut [u32], count: usize, p: NodeNumber, level: u32, lower: u32, upper: u32)
+    requires { ⌜ (p .0 ≤ count) × (count * 4 + 4 ≤ length (now table)) ⌝ }
+    ensures { λ _. ⌜ (used (now (table .exit)) (count + 1) ≡ insertAt (p .0) (record { level = level; lower = lower; upper = upper; first = 0 }) (used (now (table .entry)) count))
         × (drop (count * 4 + 4) (now (table .exit)) ≡ drop (count * 4 + 4) (now (table .entry))) ⌝ }
 {
-    make_room(table, p * RECORD, count * RECORD);
+    make_room(table, p.0 * RECORD, count * RECORD);
     store_record(table, p, level, lower, upper, 0);
 }

@@ -19,13 +19,13 @@ shared-slice-read-result : tie.Need-shared-slice-read-result
 shared-slice-read-result c = search needs
 
 cast-result : tie.Need-cast-result
-cast-result c = omega (arith, c .shared-slice-known .given (c .before .before .args .k * 4 + 3))
+cast-result c = omega (arith, c .shared-slice-known .given (c .before .before .before .before .args .k .0 * 4 + 3))
 
 returns : tie.Need-returns
-returns c = λ ns es l. first-is l (c .before .before .args .k) (omega arith)
+returns c = λ ns es l. first-is l (c .before .before .before .before .args .k .0) (omega arith)
 
 returns-2 : tie.Need-returns-2
-returns-2 c = λ ns es l. past-is l (c .before .args .k) (omega arith)
+returns-2 c = λ ns es l. past-is l (c .before .before .args .k .0) (omega arith)
 
 pub first-edge-spec : {M : Type 1} → statement M
 first-edge-spec =

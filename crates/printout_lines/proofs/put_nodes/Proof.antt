@@ -26,15 +26,15 @@ mul-b c =
     let turn = c .before in
     omega (arith, turn .before .before .before .before .pre .1 .room)
 
+add-next : tie.Need-add-next Inv-nodes μ-nodes
+add-next c =
+    let turn = c .before in
+    omega (arith, turn .before .before .before .before .pre .1 .room)
+
 first-edge-requires : tie.Need-first-edge-requires Inv-nodes μ-nodes
 first-edge-requires c κs =
     let turn = c .before in
     (omega arith, turn .before .before .before .before .pre .1 .room)
-
-add-first-edge : tie.Need-add-first-edge Inv-nodes μ-nodes
-add-first-edge c =
-    let turn = c .before .before in
-    omega (arith, turn .before .before .before .before .pre .1 .room)
 
 first-edge-requires-2 : tie.Need-first-edge-requires-2 Inv-nodes μ-nodes
 first-edge-requires-2 c κs =
@@ -104,9 +104,6 @@ mul-put-node-4 c = omega (arith, sub-put-node c, part-put-node-end c)
 put-node-requires : tie.Need-put-node-requires Inv-nodes μ-nodes
 put-node-requires c κs = search needs
 
-add-node : tie.Need-add-node Inv-nodes μ-nodes
-add-node c = search needs
-
 nodes-less : tie.Need-nodes-less Inv-nodes μ-nodes
 nodes-less c = search needs
 
@@ -136,8 +133,8 @@ put-nodes-spec =
     μ-nodes
     nodes-holds
     mul-b
+    add-next
     first-edge-requires
-    add-first-edge
     first-edge-requires-2
     mul-put-node
     shared-slice-read-put-node
@@ -152,7 +149,6 @@ put-nodes-spec =
     part-put-node-start
     part-put-node-end
     put-node-requires
-    add-node
     nodes-less
     nodes-again
     same-length

@@ -9,7 +9,7 @@ hit-requires : tie.Need-hit-requires
 hit-requires c κs = search needs
 
 returns : tie.Need-returns
-returns c = let a = c .before .before .before in hits-reply _ (a .pre .1) _ _ (a .args .guess) (sym (c .before .hit .ensures) ∙ c .if1 .taken)
+returns c = let a = c .before .before .before in hits-reply _ (a .pre .1) _ _ (a .args .guess .0) (sym (c .before .hit .ensures) ∙ c .if1 .taken)
 
 gap-near-requires : tie.Need-gap-near-requires
 gap-near-requires c κs = search needs

@@ -41,15 +41,15 @@ holds-requires c κs = search needs
 
 returns : tie.Need-returns
 returns c =
-    let a = c .before .before .before .before .before .before in
+    let a = c .before .before .before .before .before .before .before .before in
     let n = used-length (a .args .table .now) (a .args .count) (a .pre) in
-    rw (lt-ltb (a .args .p) (length (used (a .args .table .now) (a .args .count))) (omega arith), used-at (a .args .table .now) (a .args .count) (a .pre) (a .args .p) (omega arith)) (c .holds .ensures)
+    rw (lt-ltb (a .args .p .0) (length (used (a .args .table .now) (a .args .count))) (omega arith), used-at (a .args .table .now) (a .args .count) (a .pre) (a .args .p .0) (omega arith)) (c .holds .ensures)
 
 returns-2 : tie.Need-returns-2
 returns-2 c =
-    let a = c .before .before in
+    let a = c .before .before .before in
     let n = used-length (a .args .table .now) (a .args .count) (a .pre) in
-    rw (le-ltb (a .args .p) (length (used (a .args .table .now) (a .args .count))) (omega arith)) refl
+    rw (le-ltb (a .args .p .0) (length (used (a .args .table .now) (a .args .count))) (omega arith)) refl
 
 pub hit-spec : {M : Type 1} → statement M
 hit-spec =

@@ -24,9 +24,9 @@ same-length c = c .before .before .store-record .kept .0 ∙ c .before .before .
 
 returns : tie.Need-returns
 returns c =
-    let a = c .before .before .before .before .before .before .before .before .before in
+    let a = c .before .before .before .before .before .before .before .before .before .before in
     let x = recordFrom (a .args .level) (a .args .lower) (a .args .upper) 0 in
-    insert-leaves (a .args .table .now) (a .args .count) (a .args .p) x (a .pre .0) (a .pre .1) _ _ (c .before .before .before .before .before .before .make-room .ensures) (c .before .before .store-record .ensures)
+    insert-leaves (a .args .table .now) (a .args .count) (a .args .p .0) x (a .pre .0) (a .pre .1) _ _ (c .before .before .before .before .before .before .make-room .ensures) (c .before .before .store-record .ensures)
 
 pub insert-spec : {M : Type 1} → statement M
 insert-spec =

@@ -47,7 +47,7 @@ same-length : tie.Need-same-length
 same-length c = search needs
 
 returns : tie.Need-returns
-returns c = let a = c .before .before .before .before .before .before .before .before .before in rw (words-at (a .args .table .now) (a .args .from) (a .pre .0)) (c .before .before .store-record .ensures)
+returns c = let a = c .before .before .before .before .before .before .before .before .before .before in rw (words-at (a .args .table .now) (a .args .from .0) (a .pre .0)) (c .before .before .store-record .ensures)
 
 pub move-record-spec : {M : Type 1} → statement M
 move-record-spec =

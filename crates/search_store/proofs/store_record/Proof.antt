@@ -46,7 +46,7 @@ same-length : tie.Need-same-length
 same-length c = search needs
 
 returns : tie.Need-returns
-returns c = stored (c .args .table .now) (c .args .k) (recordFrom (c .args .level) (c .args .lower) (c .args .upper) (c .args .first)) (c .pre)
+returns c = let a = c .before .args in stored (a .table .now) (a .k .0) (recordFrom (a .level) (a .lower) (a .upper) (a .first)) (c .before .pre)
 
 pub store-record-spec : {M : Type 1} → statement M
 store-record-spec =

@@ -62,8 +62,8 @@ last-above-requires c κs = search needs
 sub-i : tie.Need-sub-i Inv-loop2 μ-loop2 Inv-loop μ-loop
 sub-i c = let n = c .before .before .before .loop2 in above-some (records (n .table)) (n .i) (c .before .before .before .before .key-of .result) (sym (c .before .last-above .ensures) ∙ c .if1 .taken)
 
-add-move-record : tie.Need-add-move-record Inv-loop2 μ-loop2 Inv-loop μ-loop
-add-move-record c = search needs
+add-to : tie.Need-add-to Inv-loop2 μ-loop2 Inv-loop μ-loop
+add-to c = search needs
 
 move-record-requires : tie.Need-move-record-requires Inv-loop2 μ-loop2 Inv-loop μ-loop
 move-record-requires c κs = omega (arith, sub-i (c .before))
@@ -88,8 +88,8 @@ loop2-again c =
 sub-j-2 : tie.Need-sub-j-2 Inv-loop2 μ-loop2 Inv-loop μ-loop
 sub-j-2 c = search needs
 
-add-copy-record : tie.Need-add-copy-record Inv-loop2 μ-loop2 Inv-loop μ-loop
-add-copy-record c = search needs
+add-to-2 : tie.Need-add-to-2 Inv-loop2 μ-loop2 Inv-loop μ-loop
+add-to-2 c = search needs
 
 copy-record-requires : tie.Need-copy-record-requires Inv-loop2 μ-loop2 Inv-loop μ-loop
 copy-record-requires c κs = search needs
@@ -138,12 +138,12 @@ merge-back-spec =
     loop2-holds
     last-above-requires
     sub-i
-    add-move-record
+    add-to
     move-record-requires
     loop2-less
     loop2-again
     sub-j-2
-    add-copy-record
+    add-to-2
     copy-record-requires
     loop-less
     loop-again
