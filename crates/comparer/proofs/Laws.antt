@@ -9,8 +9,9 @@ use Prim.Native.Nat.{ℕ, zero, suc, _+_, _*_, _<_}
 use native.Mathlib.Omega.{arith}
 use lib.ListN.{length, drop, take-append-drop, length-drop}
 use lib.Seq.{drop-drop}
+use Rattle.comparer.specs.declared.Compared.{Compared}
 use Rattle.comparer.specs.declared.Compared.the-variants.{Same, Differs}
-use Rattle.comparer.specs.Bytes.{bytesOf, sameBytes, beginWith, comparedFrom, compared}
+use Rattle.comparer.specs.Bytes.{comparedValues, bytesOf, sameBytes, beginWith, comparedFrom, compared}
 use Rattle.comparer.specs.Four.{hasFour, AllHave}
 use Rattle.comparer.proofs.Lists.{eq-list}
 use Rattle.comparer.proofs.Turns.{word-apart, left-over}
@@ -19,6 +20,13 @@ use Rattle.comparer.proofs.Turns.{word-apart, left-over}
 pub record FirstApart (bs ws : List ℕ) (k : ℕ) : Type 0 where
   pub earlier : AllHave bs ws k
   pub here : ((k < length ws) × (hasFour bs ws k ≡ false)) ⊎ ((k ≡ length ws) × (k * 4 < length bs))
+
+-- THE VALUES TELL THE REPLY: no two replies have the same.
+pub values-tell : (r s : Compared) → comparedValues r ≡ comparedValues s → r ≡ s
+values-tell Same Same e = refl
+values-tell Same (Differs k) e = let z : _≡_ {A = ℕ} 1 0 = λ i. e i .same in absurd (omega arith)
+values-tell (Differs k) Same e = let z : _≡_ {A = ℕ} 0 1 = λ i. e i .same in absurd (omega arith)
+values-tell (Differs j) (Differs k) e = λ i. Differs (e i .word)
 
 -- ---- The bytes are those of the words, or there is such a number
 

@@ -1,4 +1,4 @@
--- THE BYTES OF WORDS, and the file comparer's reply. Assumes nothing.
+-- THE BYTES OF WORDS, and the file comparer's reply with its values. Assumes nothing.
 use mathlib.Core.List.{List, [], _∷_}
 use mathlib.Core.Bool.{Bool, true, false, _&&_, cond}
 use Prim.Native.Nat.{ℕ, suc, _/_, _%_}
@@ -6,6 +6,15 @@ use lib.Dec.{eqb}
 use lib.ListN.{take, drop}
 use Rattle.comparer.specs.declared.Compared.{Compared}
 use Rattle.comparer.specs.declared.Compared.the-variants.{Same, Differs}
+
+-- THE VALUES OF A REPLY: yes is 1 with word 0; no is 0 with the number.
+pub record ComparedValues : Type 0 where
+  pub same : ℕ
+  pub word : ℕ
+
+abbrev pub comparedValues : Compared → ComparedValues
+comparedValues Same = record { same = 1; word = 0 }
+comparedValues (Differs k) = record { same = 0; word = k }
 
 -- Four bytes a word, most significant first.
 unfoldable pub bytesOf : List ℕ → List ℕ

@@ -2,7 +2,8 @@
 ghost use mathlib.Core.Path.{_≡_};
 ghost use Prim.Native.Nat.{_+_, _*_, _≤_, _<_, min};
 ghost use lib.ListN.{length};
-ghost use Rattle.comparer.specs.Bytes.{compared};
+ghost use Rattle.word.specs.Gives.{Gives};
+ghost use Rattle.comparer.specs.Bytes.{comparedValues, compared};
 ghost use Rattle.comparer.specs.Four.{hasFour, AllHave};
 
 // The reply: the bytes are those of the words; or the number of the first word that lacks its four bytes or differs from them, or the count of words where
@@ -50,7 +51,7 @@ fn pass_fours(bytes: &[u8], words: &[u32], full: usize) -> usize
 
 // Whether the bytes are those of the words, four a word from the highest down, and no more; and if not, where they part.
 pub fn compare(bytes: &[u8], words: &[u32]) -> Compared
-    ensures { λ r. ⌜ r ≡ compared (now (bytes .entry)) (now (words .entry)) ⌝ }
+    ensures { λ r. ⌜ Gives comparedValues (compared (now (bytes .entry)) (now (words .entry))) r ⌝ }
 {
     let full = smaller(bytes.len() / 4, words.len());
     let mut k = pass_fours(bytes, words, full);

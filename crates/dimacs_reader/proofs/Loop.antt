@@ -10,11 +10,12 @@ use lib.ListN.{length, getD, take, drop, set, replicate, length-append, length-s
 use lib.Seq.{drop-cons, take-suc-set}
 use Rattle.word.specs.Padded.{cleared}
 use Rattle.word.proofs.Cleared.{cleared-padded, cleared-all}
+use Rattle.word.proofs.Giving.{gives}
 use Rattle.refusal.specs.declared.Refusal.the-variants.{NoRoom, NotDimacs}
 use Rattle.dimacs_text.specs.declared.Converted.{Converted}
 use Rattle.dimacs_text.specs.declared.Converted.the-variants.{Length, Refused}
 use Rattle.dimacs_text.specs.Claim.{Verdict, words, wrong, Says}
-use Rattle.dimacs_text.specs.Reply.{wordsReply, wordsSaid, convertedLeft}
+use Rattle.dimacs_text.specs.Reply.{convertedValues, wordsReply, wordsSaid, convertedLeft}
 use Rattle.dimacs_text.specs.Machine.{State, Next, bad, on, put, step, final, later, with-word, go-on, run, start, Good}
 use Rattle.dimacs_text.proofs.Fit.{Keeps, keeps}
 use Rattle.dimacs_text.proofs.Verdicts.{run-says}
@@ -108,7 +109,7 @@ module _ {t first out : List ℕ} {s : State} {n i : ℕ} (m : Mid t first out s
       record {
         verdict = v;
         says = subst (Says t) e (run-says t);
-        reply = sym p;
+        reply = gives convertedValues (sym p);
         list = q ∙ left-as (wordsReply v (length first)) r (length first) (wordsSaid v) p;
       }
 

@@ -12,6 +12,6 @@ use Rattle.dimacs_reader.specs.Reads.{Reads}
 pub reads-one : (text out a b : List ℕ) (r s : Converted) → Reads text out a r → Reads text out b s → (r ≡ s) × (a ≡ b)
 reads-one text out a b r s p q =
     let e : p .verdict ≡ q .verdict = says-one text (p .verdict) (q .verdict) (p .says) (q .says) in (
-      p .reply ∙ ap (λ (v : Verdict). wordsReply v (length out)) e ∙ sym (q .reply),
+      p .reply .same ∙ ap (λ (v : Verdict). wordsReply v (length out)) e ∙ sym (q .reply .same),
       p .list ∙ ap (λ (v : Verdict). convertedLeft (wordsReply v (length out)) (length out) (wordsSaid v)) e ∙ sym (q .list),
     )

@@ -11,6 +11,7 @@ use borrow.Author.Tests.{leb-true}
 use Rattle.word.specs.Word.{lastBoolean}
 use Rattle.word.specs.Padded.{cleared}
 use Rattle.word.proofs.Cleared.{cleared-padded}
+use Rattle.word.proofs.Giving.{gives}
 use Rattle.text.specs.Cut.{Wrote}
 use Rattle.text.proofs.Cuts.{wrote-as, printed}
 use Rattle.refusal.specs.declared.Refusal.{Refusal}
@@ -20,14 +21,14 @@ use Rattle.clause.specs.Check.{listFrom}
 use Rattle.dimacs_text.specs.declared.Converted.{Converted}
 use Rattle.dimacs_text.specs.declared.Converted.the-variants.{Length, Refused}
 use Rattle.dimacs_text.specs.Written.{written}
-use Rattle.dimacs_text.specs.Reply.{fitted, textReply, convertedLeft}
+use Rattle.dimacs_text.specs.Reply.{convertedValues, fitted, textReply, convertedLeft}
 use Rattle.dimacs_writer.specs.declared.Header.{Header}
 use Rattle.dimacs_writer.specs.Writes.{headed, textUnder, Writes}
 
 -- the reply is known, and so is what it leaves
 known : {ws out out′ : List ℕ} {r : Converted} (x : Converted) → r ≡ x → textReply ws (length out) ≡ x
     → out′ ≡ convertedLeft x (length out) (written ws) → Writes ws out out′ r
-known {ws} {out} x e f g = record { reply = e ∙ sym f; text = g ∙ ap (λ (y : Converted). convertedLeft y (length out) (written ws)) (sym f) }
+known {ws} {out} x e f g = record { reply = gives convertedValues (e ∙ sym f); text = g ∙ ap (λ (y : Converted). convertedLeft y (length out) (written ws)) (sym f) }
 
 pub refused : {ws out out′ : List ℕ} {r : Converted} {x : Refusal} → listFrom lastBoolean 0 0 ws ≡ check.Refused x
     → (r ≡ Refused x) × (out′ ≡ replicate (length out) 0) → Writes ws out out′ r

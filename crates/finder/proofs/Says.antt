@@ -13,7 +13,7 @@ use borrow.Author.Tests.{eqb-true, leb-true, eq-eqb, le-leb}
 use Rattle.word.specs.Record.{Record, noRecord, Among}
 use Rattle.finder.specs.declared.Found.{Found}
 use Rattle.finder.specs.declared.Found.the-variants.{At, Nothing}
-use Rattle.finder.specs.Find.{fieldsHold, holds, gapIn, findFrom, findIn, Missing}
+use Rattle.finder.specs.Find.{foundValues, fieldsHold, holds, gapIn, findFrom, findIn, Missing}
 use Rattle.word.proofs.Among.{at-among, among-at}
 
 -- THE TEST of a record's fields is true just where the level is the wanted one and the label holds r.
@@ -74,17 +74,15 @@ pub record First (xs : List Record) (k wanted r n : ℕ) : Type 0 where
   pub held : holds (getD xs i noRecord) wanted r ≡ true
   pub before : NoneBefore xs i wanted r
 
--- A reply as two numbers, to tell replies apart: the case, and what it carries.
-abbrev case-of : Found → ℕ
-case-of (At k) = 1
-case-of (Nothing gap) = 0
-
-abbrev carried : Found → ℕ
-carried (At k) = k .0
-carried (Nothing gap) = gap
-
 pub not-both : (n gap : ℕ) → At (record { 0 = n }) ≡ Nothing gap → ⊥
-not-both n gap e = let z : _≡_ {A = ℕ} 1 0 = ap case-of e in omega arith
+not-both n gap e = let z : _≡_ {A = ℕ} 0 1 = cc in omega arith
+
+-- THE VALUES TELL THE REPLY: no two replies have the same.
+pub values-tell : (f g : Found) → foundValues f ≡ foundValues g → f ≡ g
+values-tell (At j) (At k) e = λ i. At (record { 0 = e i .number })
+values-tell (At k) (Nothing gap) e = let z : _≡_ {A = ℕ} 1 0 = λ i. e i .found in absurd (omega arith)
+values-tell (Nothing gap) (At k) e = let z : _≡_ {A = ℕ} 0 1 = λ i. e i .found in absurd (omega arith)
+values-tell (Nothing gap) (Nothing wide) e = λ i. Nothing (e i .number)
 
 pub found-says : (xs : List Record) (k gap wanted r n : ℕ) → findFrom k gap xs wanted r ≡ At (record { 0 = n }) → First xs k wanted r n
 unfolding findFrom
@@ -94,7 +92,7 @@ found-says (x ∷ xs) k gap wanted r n e = go (holds x wanted r) refl (λ q. fou
     go : (b : Bool) → holds x wanted r ≡ b → (findFrom (suc k) gap xs wanted r ≡ At (record { 0 = n }) → First xs (suc k) wanted r n)
         → cond b (At (record { 0 = k })) (findFrom (suc k) gap xs wanted r) ≡ At (record { 0 = n }) → First (x ∷ xs) k wanted r n
     go true h again q =
-        let same : k ≡ n = ap carried q in
+        let same : k ≡ n = λ i. foundValues (q i) .number in
         record { i = 0; number = omega arith; within = suc-le-suc zero-le; held = h; before = λ j l. absurd (not-suc-le-zero l) }
     go false h again q =
         let f = again q in
@@ -108,7 +106,7 @@ found-says (x ∷ xs) k gap wanted r n e = go (holds x wanted r) refl (λ q. fou
 
 pub nothing-says : (xs : List Record) (k gap wanted r g : ℕ) → findFrom k gap xs wanted r ≡ Nothing g → (g ≡ gap) × NoneBefore xs (length xs) wanted r
 unfolding findFrom
-nothing-says [] k gap wanted r g e = (sym (ap carried e), λ j l. absurd (not-suc-le-zero l))
+nothing-says [] k gap wanted r g e = ((cc), λ j l. absurd (not-suc-le-zero l))
 nothing-says (x ∷ xs) k gap wanted r g e = go (holds x wanted r) refl (λ q. nothing-says xs (suc k) gap wanted r g q) e
   where
     go : (b : Bool) → holds x wanted r ≡ b → (findFrom (suc k) gap xs wanted r ≡ Nothing g → (g ≡ gap) × NoneBefore xs (length xs) wanted r)

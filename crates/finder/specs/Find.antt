@@ -1,4 +1,4 @@
--- THE FINDER'S REPLY: the first record of a level whose label holds a remainder, or the gap where there is none. Assumes nothing.
+-- THE FINDER'S REPLY: the first record of a level whose label holds a remainder, or the gap where there is none; and the values of a reply. Assumes nothing.
 use mathlib.Core.Path.{_≡_}
 use mathlib.Core.List.{List, [], _∷_}
 use mathlib.Core.Bool.{Bool, true, false, _&&_, _||_, cond}
@@ -7,6 +7,15 @@ use lib.Dec.{leb, ltb, eqb}
 use Rattle.word.specs.Record.{Record, Among}
 use Rattle.finder.specs.declared.Found.{Found}
 use Rattle.finder.specs.declared.Found.the-variants.{At, Nothing}
+
+-- THE VALUES OF A REPLY: found is 1 and number the record's; where there is none, found is 0 and number the gap.
+pub record FoundValues : Type 0 where
+  pub found : ℕ
+  pub number : ℕ
+
+abbrev pub foundValues : Found → FoundValues
+foundValues (At k) = record { found = 1; number = k .0 }
+foundValues (Nothing gap) = record { found = 0; number = gap }
 
 -- The level is the wanted one, and the label from lower to upper holds r. With lower above upper it holds nothing.
 abbrev pub fieldsHold : ℕ → ℕ → ℕ → ℕ → ℕ → Bool

@@ -4,8 +4,9 @@ use word::RECORD;
 use word::Remainder;
 ghost use mathlib.Core.Path.{_≡_};
 ghost use lib.Dec.{ltb};
+ghost use Rattle.word.specs.Gives.{Gives};
 ghost use Rattle.word.specs.Record.{records};
-ghost use Rattle.finder.specs.Find.{fieldsHold, fieldsBefore, bitOf, findIn, key};
+ghost use Rattle.finder.specs.Find.{foundValues, fieldsHold, fieldsBefore, bitOf, findIn, key};
 
 // What the finder replies: the number of a record, or that there is none, with the gap, which counts the records that lie before the remainder. A record does
 // where its level is smaller than the wanted one, or is that one and its upper end is below the remainder.
@@ -51,7 +52,7 @@ pub fn lies_before(level: u32, upper: u32, wanted: u32, r: Remainder) -> usize
 
 // The first record of the level whose label holds the remainder, or the gap, counted over all records.
 pub fn find(table: &[u32], level: u32, r: Remainder) -> Found
-    ensures { λ f. ⌜ f ≡ findIn (records (now (table .entry))) level (r .0) ⌝ }
+    ensures { λ f. ⌜ Gives foundValues (findIn (records (now (table .entry))) level (r .0)) f ⌝ }
 {
     let n = table.len() / RECORD;
     let mut k = 0;

@@ -8,7 +8,7 @@ use Rattle.finder_records.specs.declared.Node.{Node}
 use Rattle.finder_records.specs.declared.Search.{Search}
 use Rattle.finder_records.specs.Nodes.{fieldsOf}
 
--- Before the first record nothing is found, and none is countedIn.
+-- Before the first record nothing is found, and none is counted.
 abbrev pub begun : Search
 begun = record { next = 0; reply = Nothing 0 }
 

@@ -4,7 +4,8 @@ use word::NodeNumber;
 use word::Remainder;
 ghost use mathlib.Core.Path.{_≡_};
 ghost use Prim.Native.Nat.{_+_, _≤_, _<_};
-ghost use Rattle.finder.specs.Find.{findIn};
+ghost use Rattle.word.specs.Gives.{Gives};
+ghost use Rattle.finder.specs.Find.{foundValues, findIn};
 ghost use Rattle.finder_records.specs.Nodes.{recordsOf};
 ghost use Rattle.finder_records.specs.Search.{gapOf, countedIn, stepped};
 
@@ -54,9 +55,9 @@ fn step(s: Search, n: Node, count: usize, level: u32, r: Remainder) -> Search
     }
 }
 
-// The first record of the level whose label holds the remainder, or the gap, countedIn over all records.
+// The first record of the level whose label holds the remainder, or the gap, counted over all records.
 pub fn find(nodes: &[Node], level: u32, r: Remainder) -> Found
-    ensures { λ f. ⌜ f ≡ findIn (recordsOf (now (nodes .entry))) level (r .0) ⌝ }
+    ensures { λ f. ⌜ Gives foundValues (findIn (recordsOf (now (nodes .entry))) level (r .0)) f ⌝ }
 {
     let mut s = Search {
         next: 0,

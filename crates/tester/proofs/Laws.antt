@@ -9,6 +9,7 @@ use native.Mathlib.Omega.{arith}
 use lib.ListN.{length, getD, take, drop, length-append, take-append-drop}
 use lib.Seq.{take-at, drop-at, getD-at}
 use Rattle.word.specs.Word.{endWord}
+use Rattle.refusal.specs.Table.{numberOf, placeOf}
 use Rattle.refusal.specs.declared.Refusal.{Refusal}
 use Rattle.refusal.specs.declared.Checked.the-variants.{Passed, Refused}
 use Rattle.clause.specs.Meaning.{Clause, Values, ClauseTrue, AllTrue as EachTrue, clauseTrue, clausesOf, wordsOf}
@@ -16,8 +17,26 @@ use Rattle.clause.specs.Check.{listFrom}
 use Rattle.clause.proofs.Truth.{clause-true, clause-false}
 use Rattle.clause.proofs.Written.{read-end, size, words-append, words-length}
 use Rattle.clause.proofs.Checked.{Lawful, lawful, lawful-written, clauses-append, lawful-before}
+use Rattle.tester.specs.declared.Tested.{Tested}
 use Rattle.tester.specs.declared.Tested.the-variants.{AllTrue, NotTrue, Unfit}
-use Rattle.tester.specs.Tested.{valueIn, valuesFrom, scan, tested}
+use Rattle.tester.specs.Tested.{testedValues, valueIn, valuesFrom, scan, tested}
+
+-- THE VALUES TELL THE REPLY: verdict 0 is all true, verdict 1 the clause of that number and place, verdict 2 a refusal of that number and place.
+pub verdict-0 : (r : Tested) → testedValues r .verdict ≡ 0 → r ≡ AllTrue
+verdict-0 AllTrue e = refl
+verdict-0 (NotTrue k p) e = absurd (omega arith)
+verdict-0 (Unfit x) e = absurd (omega arith)
+
+pub verdict-1 : (r : Tested) → testedValues r .verdict ≡ 1 → r ≡ NotTrue (testedValues r .number) (testedValues r .place)
+verdict-1 AllTrue e = absurd (omega arith)
+verdict-1 (NotTrue k p) e = refl
+verdict-1 (Unfit x) e = absurd (omega arith)
+
+pub verdict-2 : (r : Tested) → testedValues r .verdict ≡ 2
+    → (x : Refusal) × (r ≡ Unfit x) × (testedValues r .number ≡ numberOf x) × (testedValues r .place ≡ placeOf x)
+verdict-2 AllTrue e = absurd (omega arith)
+verdict-2 (NotTrue k p) e = absurd (omega arith)
+verdict-2 (Unfit x) e = (x, refl, refl, refl)
 
 -- CLAUSE k IS THE FIRST WITHOUT A TRUE LITERAL, and stands at p: behind the words of the clauses before it.
 pub record FirstLacking (v : Values) (cs : List Clause) (k p : ℕ) : Type 0 where

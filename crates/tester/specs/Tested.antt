@@ -1,10 +1,10 @@
--- THE CLAUSE TESTER'S REPLY to value bytes and a clause list. Assumes nothing.
+-- THE CLAUSE TESTER'S REPLY to value bytes and a clause list, and the values of a reply. Assumes nothing.
 use mathlib.Core.List.{List, [], _∷_}
 use mathlib.Core.Bool.{false, cond}
 use Prim.Native.Nat.{ℕ, zero, suc, _+_}
 use lib.Dec.{leb, eqb}
 use lib.ListN.{length, getD}
-use Rattle.refusal.specs.Table.{andThen, unless, unlessRefused}
+use Rattle.refusal.specs.Table.{numberOf, placeOf, andThen, unless, unlessRefused}
 use Rattle.refusal.specs.declared.Checked.{Checked}
 use Rattle.refusal.specs.declared.Checked.the-variants.{Passed}
 use Rattle.refusal.specs.declared.Refusal.the-variants.{ValueByte}
@@ -12,6 +12,18 @@ use Rattle.clause.specs.Meaning.{Clause, Values, clausesOf, clauseTrue}
 use Rattle.clause.specs.Check.{listFrom}
 use Rattle.tester.specs.declared.Tested.{Tested}
 use Rattle.tester.specs.declared.Tested.the-variants.{AllTrue, NotTrue, Unfit}
+
+-- THE VALUES OF A REPLY: all true is 0 with number and place 0; a clause without a true literal is 1, its number and the place of its first word; a refusal
+-- is 2, its number and place.
+pub record TestedValues : Type 0 where
+  pub verdict : ℕ
+  pub number : ℕ
+  pub place : ℕ
+
+abbrev pub testedValues : Tested → TestedValues
+testedValues AllTrue = record { verdict = 0; number = 0; place = 0 }
+testedValues (NotTrue k at) = record { verdict = 1; number = k; place = at }
+testedValues (Unfit x) = record { verdict = 2; number = numberOf x; place = placeOf x }
 
 -- The value of a Boolean: byte v − 1 for Boolean v.
 abbrev pub valueIn : List ℕ → Values

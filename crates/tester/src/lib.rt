@@ -5,8 +5,9 @@ use word::Variable;
 ghost use mathlib.Core.Path.{_≡_};
 ghost use Prim.Native.Nat.{_≤_};
 ghost use lib.ListN.{length, drop};
+ghost use Rattle.word.specs.Gives.{Gives};
 ghost use Rattle.clause.specs.Meaning.{literalOf, literalTrue, clausesOf};
-ghost use Rattle.tester.specs.Tested.{valueIn, valuesFrom, scan, tested};
+ghost use Rattle.tester.specs.Tested.{testedValues, valueIn, valuesFrom, scan, tested};
 ghost use Rattle.clause.specs.Check.{listFrom};
 ghost use Rattle.tester.specs.Past.{pastEnd};
 
@@ -137,7 +138,7 @@ fn scan_list(values: &[u8], words: &[u32]) -> Tested
 
 // The reply to value bytes and a clause list: the values and the whole list are checked before any clause is looked at.
 pub fn test(values: &[u8], words: &[u32]) -> Tested
-    ensures { λ r. ⌜ r ≡ tested (now (values .entry)) (now (words .entry)) ⌝ }
+    ensures { λ r. ⌜ Gives testedValues (tested (now (values .entry)) (now (words .entry))) r ⌝ }
 {
     match check_values(values) {
         Checked::Refused(x) => Tested::Unfit(x),

@@ -6,7 +6,9 @@ use native.Mathlib.Omega.{arith}
 use mathlib.Core.Path.{_≡_, sym, ap, _∙_}
 use lib.ListN.{length}
 use borrow.Author.Tests.{not-true, not-false}
+use Rattle.word.proofs.Giving.{gives}
 use Rattle.comparer.specs.declared.Compared.the-variants.{Differs}
+use Rattle.comparer.specs.Bytes.{comparedValues}
 use Rattle.comparer.specs.Four.{AllHave}
 use Rattle.comparer.proofs.Turns.{one-more, word-apart, none-left, ends-apart}
 use Rattle.comparer.proofs.compare.Statement.{statement}
@@ -34,7 +36,8 @@ returns : tie.Need-returns Inv-loop μ-loop
 returns c =
     let turn = c .before .before .before in
     let args = turn .before .before .before .before .before .args in
-    ap Differs (omega arith)
+    gives comparedValues
+    (ap Differs (omega arith)
     ∙ sym
     (word-apart
     (args .bytes .now)
@@ -42,7 +45,7 @@ returns c =
     (turn .loop .k)
     (turn .loop .inv .2)
     (omega arith)
-    (sym (c .before .has-four .ensures) ∙ not-true _ (c .if1 .taken)))
+    (sym (c .before .has-four .ensures) ∙ not-true _ (c .if1 .taken))))
 
 add-k : tie.Need-add-k Inv-loop μ-loop
 add-k c = search needs
@@ -73,13 +76,14 @@ returns-2 : tie.Need-returns-2 Inv-loop μ-loop
 returns-2 c =
     let end = c .before .before in
     let args = end .before .before .before .before .before .args in
-    sym (none-left (args .bytes .now) (args .words .now) (end .loop .k) (end .loop .inv .2) (omega arith) (omega arith))
+    gives comparedValues (sym (none-left (args .bytes .now) (args .words .now) (end .loop .k) (end .loop .inv .2) (omega arith) (omega arith)))
 
 returns-3 : tie.Need-returns-3 Inv-loop μ-loop
 returns-3 c =
     let end = c .before .before in
     let args = end .before .before .before .before .before .args in
-    ap Differs (omega arith)
+    gives comparedValues
+    (ap Differs (omega arith)
     ∙ sym
     (ends-apart
     (args .bytes .now)
@@ -89,7 +93,7 @@ returns-3 c =
     (omega arith)
     (omega arith)
     (λ i. omega (arith, i))
-    (λ e. omega (arith, e)))
+    (λ e. omega (arith, e))))
 
 pub compare-spec : {M : Type 1} → statement M
 compare-spec =

@@ -7,6 +7,8 @@ use mathlib.Core.Path.{_≡_, refl}
 use lib.ListN.{length}
 use Rattle.word.specs.Record.{records}
 use Rattle.word.proofs.Flat.{records-length}
+use Rattle.word.proofs.Giving.{gives}
+use Rattle.finder.specs.Find.{foundValues}
 use Rattle.finder.proofs.Laws.{Past, past-start, past-within, find-hit, find-miss, find-end}
 use Rattle.finder.proofs.find.Statement.{statement}
 use Rattle.finder.proofs.find.Tie as tie
@@ -51,7 +53,7 @@ holds-requires : tie.Need-holds-requires Inv-loop μ-loop
 holds-requires c κs = search needs
 
 returns : tie.Need-returns Inv-loop μ-loop
-returns c = find-hit _ _ _ _ _ (c .before .before .before .before .before .before .loop .inv .2) (search needs) _ (c .before .holds .ensures) (c .if1 .taken)
+returns c = gives foundValues (find-hit _ _ _ _ _ (c .before .before .before .before .before .before .loop .inv .2) (search needs) _ (c .before .holds .ensures) (c .if1 .taken))
 
 mul-lies-before : tie.Need-mul-lies-before Inv-loop μ-loop
 mul-lies-before c = omega arith
@@ -86,7 +88,7 @@ loop-again : tie.Need-loop-again Inv-loop μ-loop
 loop-again c = (refl, search needs, find-miss _ _ _ _ _ (c .before .before .before .before .before .before .before .before .before .loop .inv .2) (search needs) _ (c .before .before .before .before .holds .ensures) (c .before .before .before .if1 .left) _ (c .lies-before .ensures))
 
 returns-2 : tie.Need-returns-2 Inv-loop μ-loop
-returns-2 c = find-end _ _ _ _ _ (c .before .loop .inv .2) (search needs)
+returns-2 c = gives foundValues (find-end _ _ _ _ _ (c .before .loop .inv .2) (search needs))
 
 pub find-spec : {M : Type 1} → statement M
 find-spec =

@@ -47,11 +47,12 @@ use denote.Triple.Walked.{says, Stays, stay-none-slice, stay-none, walkOf, Walks
 use denote.Triple.Clauses.{ensured, lasts}
 use denote.Exit.{yes}
 use Rattle.word.specs.declared.Remainder.{Remainder}
+use Rattle.word.proofs.Giving.{gives}
 use Rattle.word.proofs.Remainder as R
 use Rattle.word.proofs.Remainder.Laws as R′
 use Rattle.finder.specs.declared.Found.{Found}
 use Rattle.finder.specs.declared.Found.the-variants.{Nothing}
-use Rattle.finder.specs.Find.{findIn}
+use Rattle.finder.specs.Find.{foundValues, findIn}
 use Rattle.finder.proofs.Found as F
 use Rattle.finder.proofs.Found.Laws as F′
 use Rattle.finder_records.specs.declared.Node.{Node}
@@ -157,7 +158,7 @@ module _ {M : Type 1} (𝓤 : URA M) (H : Heap 𝓤) (A : Atoms 𝓤) (W : Given
       qed W Had ∵
       suffices ! _ (ends-at 𝓤 H A self.ended stayed (self.clauses 𝓤 H A mem run) W (((κ, tt), (q, tt), tt, x, at), tt) (F′.lowered f) f
       (tt, (tt, (tt, tt))) (tt, (tt, (tt, tt)))) $
-      says ! e $ nothing ! $ move ! (1 ∷ 0 ∷ []) $ join ! $ frame ! $ fjoin ! $ frame ! $
+      says ! (gives foundValues e) $ nothing ! $ move ! (1 ∷ 0 ∷ []) $ join ! $ frame ! $ fjoin ! $ frame ! $
       owned ! F.the-row (Is F.the-row) (enum.makes F.the-type F′.the-plain 𝓤 H A) f _ g $ done !
 
   -- ---- the call: what `step` is passed for a search, and what it replies
