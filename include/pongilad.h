@@ -2,7 +2,7 @@
  * text.
  *
  * Link with libpongilad.a (x86-64 Linux). Each call is proved, for every input and every length, to reply and to leave the lent
- * lists as its definition says; the definitions are in crates/pongilad/specs. No call allocates, keeps a pointer or prints.
+ * lists as its definition says; docs/TRUST.md leads to the definitions. No call allocates, keeps a pointer or prints.
  * pongilad_encode takes up to about 30 KB of stack (measured, not proved); the other calls take next to none.
  *
  * LISTS AND LENGTHS
@@ -122,8 +122,8 @@ typedef struct {
 
 /* What pongilad_compare replies.
  *   same  1 where the bytes are those of the words, most significant byte first, exactly four for each word; otherwise 0
- *   word  same 1: 0; same 0: the number, from 0, of the first word that lacks some of its four bytes or differs from them, or
- *         words_length where every word has its bytes and more follow */
+ *   word  same 1: 0; same 0: the number, from 0, of the first word whose bytes are not all there or are others, or words_length
+ *         where every word has its bytes and more follow */
 typedef struct {
     uint64_t same, word;
 } pongilad_compared;

@@ -5,7 +5,7 @@ use mathlib.Core.List.{List}
 use Prim.Native.Nat.{ℕ}
 use Rattle.word.specs.Record.{Record, used, Among}
 use Rattle.finder.specs.Find.{Missing}
-use Rattle.search_runs.specs.Runs.{run, Settled}
+use Rattle.search_runs.specs.Runs.{secondRun, Settled}
 use Rattle.search_runs.proofs.Members.{among-right}
 use Rattle.search_runs.proofs.Views.{both-runs, both-used, used-both, settled-both}
 use Rattle.builder_steps.specs.Put.{Two}
@@ -24,7 +24,7 @@ settled-same t m count w t′ k two S =
 
 -- Where no record holds a remainder, none of the second run does after settling.
 pub settled-missing : (t : List ℕ) (m count w : ℕ) (t′ : List ℕ) (k : ℕ) → Two t m count w → Settled t m count w t′ k → (level r : ℕ)
-    → Missing (used t count) level r → Missing (run t′ k count) level r
+    → Missing (used t count) level r → Missing (secondRun t′ k count) level r
 settled-missing t m count w t′ k two S level r none x a =
     let whole = both-runs t′ k count (S .within) in
-    none x (settled-same t m count w t′ k two S .1 x .0 (subst (Among x) (sym whole) (among-right (used t′ k) (run t′ k count) x a)))
+    none x (settled-same t m count w t′ k two S .1 x .0 (subst (Among x) (sym whole) (among-right (used t′ k) (secondRun t′ k count) x a)))

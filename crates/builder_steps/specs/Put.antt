@@ -4,7 +4,7 @@ use mathlib.Core.List.{List}
 use Prim.Native.Nat.{ℕ, _+_, _*_, _/_, _≤_}
 use lib.ListN.{length}
 use Rattle.word.specs.Record.{used}
-use Rattle.search_runs.specs.Runs.{run, Apart, Runs, Settled, PutIn}
+use Rattle.search_runs.specs.Runs.{secondRun, Apart, Runs, Settled, PutIn}
 use Rattle.builder_steps.specs.declared.Ends.{Ends}
 use Rattle.builder_steps.specs.declared.Built.{Built}
 use Rattle.builder_steps.specs.declared.Built.the-variants.{Done, Full}
@@ -12,7 +12,7 @@ use Rattle.builder_steps.specs.declared.Built.the-variants.{Done, Full}
 -- The table has `count` records in two runs, the first of m records and the second within w words, no two labels of a level overlapping.
 pub record Two (t : List ℕ) (m count w : ℕ) : Type 0 where
   pub runs : Runs t m count w
-  pub apart : Apart (used t m) (run t m count)
+  pub apart : Apart (used t m) (secondRun t m count)
 
 -- A record was put into the second run, for which both were merged first if need be; or there was no room.
 pub record Put (t : List ℕ) (m count w level r : ℕ) (e : Ends) (t′ : List ℕ) (m′ n : ℕ) (e′ : Ends) : Type 0 where
@@ -25,4 +25,4 @@ pub record Put (t : List ℕ) (m count w level r : ℕ) (e : Ends) (t′ : List 
 
 abbrev pub PutOk : List ℕ → ℕ → ℕ → ℕ → ℕ → ℕ → Ends → List ℕ → Built → Type 0
 PutOk t m count w level r e t′ (Done m′ n e′) = Put t m count w level r e t′ m′ n e′
-PutOk t m count w level r e t′ Full = length t / 4 ≤ count
+PutOk t m count w level r e t′ Full = (length t / 4 ≤ count) × (t′ ≡ t)

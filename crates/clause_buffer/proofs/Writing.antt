@@ -10,8 +10,8 @@ use Rattle.word.proofs.Kept.{rest-later, Parts}
 use Rattle.clause_buffer.specs.Written.{Room, WroteWords}
 
 -- words that are stored one by one are written
-pub stored : (ws : List ℕ) (at r : ℕ) (out after : List ℕ) → Room ws at out → r ≡ at + length ws → after ≡ sets out at ws → WroteWords ws at out after r
-stored ws at r out after room e f =
+pub stored-words : (ws : List ℕ) (at r : ℕ) (out after : List ℕ) → Room ws at out → r ≡ at + length ws → after ≡ sets out at ws → WroteWords ws at out after r
+stored-words ws at r out after room e f =
     record {
       place = e;
       front = ap (take r) whole ∙ take-at (take at out ++ ws) (drop (at + length ws) out) r long;
@@ -27,11 +27,11 @@ stored ws at r out after room e f =
 
 -- ---- Pieces
 
-pub wrote-as : {xs ys a b : List ℕ} {at r : ℕ} → xs ≡ ys → WroteWords xs at a b r → WroteWords ys at a b r
-wrote-as {a} {b} {at} {r} e w = subst (λ (ws : List ℕ). WroteWords ws at a b r) e w
+pub wrote-words-as : {xs ys a b : List ℕ} {at r : ℕ} → xs ≡ ys → WroteWords xs at a b r → WroteWords ys at a b r
+wrote-words-as {a} {b} {at} {r} e w = subst (λ (ws : List ℕ). WroteWords ws at a b r) e w
 
-pub wrote-then : {xs ys a b c : List ℕ} {at p r : ℕ} → WroteWords xs at a b p → WroteWords ys p b c r → WroteWords (xs ++ ys) at a c r
-wrote-then {xs} {ys} {a} {b} {c} {at} {p} {r} v w =
+pub wrote-words-then : {xs ys a b c : List ℕ} {at p r : ℕ} → WroteWords xs at a b p → WroteWords ys p b c r → WroteWords (xs ++ ys) at a c r
+wrote-words-then {xs} {ys} {a} {b} {c} {at} {p} {r} v w =
     record {
       place = omega (arith, length-append xs ys);
       front = w .front ∙ ap (λ (l : List ℕ). l ++ ys) (v .front) ∙ append-assoc (take at a) xs ys;
@@ -49,23 +49,23 @@ room-then {whole} {piece} {more} {a} {b} {at} {p} e w h = omega (arith, ap lengt
 -- ---- The whole, with what is left of it
 
 -- of the words ws, to be written from `start` on, those before the place `at` are in, and `rest` is left; from `at` on the buffer is as before
-pub record Left (ws : List ℕ) (start : ℕ) (first rest : List ℕ) (at : ℕ) (out : List ℕ) : Type 0 where
+pub record WordsLeft (ws : List ℕ) (start : ℕ) (first rest : List ℕ) (at : ℕ) (out : List ℕ) : Type 0 where
   pub whole : take at out ++ rest ≡ take start first ++ ws
   pub behind : drop at out ≡ drop at first
   pub place : at + length rest ≡ start + length ws
   pub room : start + length ws ≤ length first
   pub kept : length out ≡ length first
 
-pub left-all : (ws rest : List ℕ) (start : ℕ) (first : List ℕ) → ws ≡ rest → Room ws start first → Left ws start first rest start first
-left-all ws rest start first e h =
-    subst (λ (r : List ℕ). Left ws start first r start first) e (record { whole = refl; behind = refl; place = refl; room = h; kept = refl })
+pub words-left-all : (ws rest : List ℕ) (start : ℕ) (first : List ℕ) → ws ≡ rest → Room ws start first → WordsLeft ws start first rest start first
+words-left-all ws rest start first e h =
+    subst (λ (r : List ℕ). WordsLeft ws start first r start first) e (record { whole = refl; behind = refl; place = refl; room = h; kept = refl })
 
-pub left-room : {ws first rest piece more out : List ℕ} {start at : ℕ} → Parts rest piece more → Left ws start first rest at out → Room piece at out
-left-room {ws} {first} {rest} {piece} {more} {out} {start} {at} e l = omega (arith, ap length (e .joined), length-append piece more)
+pub words-left-room : {ws first rest piece more out : List ℕ} {start at : ℕ} → Parts rest piece more → WordsLeft ws start first rest at out → Room piece at out
+words-left-room {ws} {first} {rest} {piece} {more} {out} {start} {at} e l = omega (arith, ap length (e .joined), length-append piece more)
 
-pub left-less : {ws first rest piece more out after : List ℕ} {start at r : ℕ} → Parts rest piece more → Left ws start first rest at out
-    → WroteWords piece at out after r → Left ws start first more r after
-left-less {ws} {first} {rest} {piece} {more} {out} {after} {start} {at} {r} e l w =
+pub words-left-less : {ws first rest piece more out after : List ℕ} {start at r : ℕ} → Parts rest piece more → WordsLeft ws start first rest at out
+    → WroteWords piece at out after r → WordsLeft ws start first more r after
+words-left-less {ws} {first} {rest} {piece} {more} {out} {after} {start} {at} {r} e l w =
     record {
       whole = ap (λ (x : List ℕ). x ++ more) (w .front) ∙ append-assoc (take at out) piece more ∙ ap (λ (x : List ℕ). take at out ++ x) (sym (e .joined)) ∙ l .whole;
       behind = w .rest ∙ rest-later first out at r (omega (arith, w .place)) (l .behind);
@@ -74,8 +74,8 @@ left-less {ws} {first} {rest} {piece} {more} {out} {after} {start} {at} {r} e l 
       kept = w .kept ∙ l .kept;
     }
 
-pub left-none : {ws first rest out : List ℕ} {start at : ℕ} → rest ≡ [] → Left ws start first rest at out → WroteWords ws start first out at
-left-none {ws} {first} {rest} {out} {start} {at} e l =
+pub words-left-none : {ws first rest out : List ℕ} {start at : ℕ} → rest ≡ [] → WordsLeft ws start first rest at out → WroteWords ws start first out at
+words-left-none {ws} {first} {rest} {out} {start} {at} e l =
     record {
       place = omega (arith, ap length e);
       front = sym (append-nil (take at out)) ∙ ap (λ (x : List ℕ). take at out ++ x) (sym e) ∙ l .whole;

@@ -1,4 +1,4 @@
--- WRITING into a lent buffer from a place on, where there is room. Only the contracts of private functions speak of it. Assumes nothing.
+-- WRITING into a lent buffer from a place on, where there is room. Only what our own functions promise each other speaks of it. Assumes nothing.
 use mathlib.Core.Path.{_≡_}
 use mathlib.Core.List.{List, _++_}
 use Prim.Native.Nat.{ℕ, _+_, _≤_}

@@ -17,11 +17,11 @@ use Rattle.diagram.specs.Table.{Node, noNode}
 use Rattle.diagram.specs.Claim.{noLevel, nodeAt, levelAt}
 use Rattle.diagram.specs.Flat.{recordOf, recordsFrom, edgeWords, firstPlace, Small}
 use Rattle.diagram.proofs.Places.{map-at}
-use Rattle.diagram.proofs.Written.{records-length, record-at, place-inside, edges-in}
+use Rattle.diagram.proofs.Written.{recordsFrom-length, recordsFrom-at, place-inside, edges-in}
 use Rattle.encoding.specs.Boolean.{orders, ordersBefore}
 use Rattle.encoding.specs.Pattern.{ordersOf, unitsOf, nodesOf, clauseWords, wordCount}
 use Rattle.encoding.proofs.Fits.{words-count}
-use Rattle.word.proofs.Flat.{recordAt, records-length as table-length, used-at}
+use Rattle.word.proofs.Flat.{recordAt, records-length, used-at}
 use Rattle.clause_buffer.specs.Written.{Room, WroteWords}
 use Rattle.clause_writer.specs.Drawing.{Drawing, Listed}
 use Rattle.clause_buffer.specs.Ended.{ended}
@@ -128,7 +128,7 @@ module _ {ls : List Level} {ns : List Node} {ds : List ℕ} {D : ℕ} {t : List 
   booleans = d .booleans ∙ sym (orders-ended ls) ∙ ap (λ (l : List ℕ). orders (ended l)) (d .ends)
 
   long : count * 4 ≤ length t
-  long = omega (arith, ap length (d .records), length-take count (records t), table-length t, records-length 0 ns, d .counted)
+  long = omega (arith, ap length (d .records), length-take count (records t), records-length t, recordsFrom-length 0 ns, d .counted)
 
   edges-long : length (edgeWords ns) ≤ length es
   edges-long = omega (arith, ap length (d .edges), length-take (length (edgeWords ns)) es)
@@ -137,12 +137,12 @@ module _ {ls : List Level} {ns : List Node} {ds : List ℕ} {D : ℕ} {t : List 
   record-is k h =
       sym (used-at t count long k h)
       ∙ ap (λ (xs : List Record). getD xs k noRecord) (d .records)
-      ∙ record-at 0 ns k (omega (arith, d .counted))
+      ∙ recordsFrom-at 0 ns k (omega (arith, d .counted))
 
   node-is : (k : ℕ) → k < count → nodeFrom ds es (recordAt t k) ≡ nodeAt ns k
   node-is k h =
       ap (nodeFrom ds es) (sym (used-at t count long k h))
-      ∙ sym (map-at (nodeFrom ds es) (used t count) k noNode noRecord (omega (arith, ap length (d .records), records-length 0 ns, d .counted)))
+      ∙ sym (map-at (nodeFrom ds es) (used t count) k noNode noRecord (omega (arith, ap length (d .records), recordsFrom-length 0 ns, d .counted)))
       ∙ ap (λ (xs : List Node). getD xs k noNode) nodes-held
 
   sound : (k : ℕ) → k < count → Sound ds D es (recordAt t k)
@@ -172,8 +172,8 @@ module _ {ls : List Level} {ns : List Node} {ds : List ℕ} {D : ℕ} {t : List 
           subst (λ (x : Edge). edgeBoolean D x ≤ lastBoolean) (sym c) (fits k j within (omega arith))
 
   -- LENT MEMORY HOLDS what the writing asks for
-  pub held : Held ds D t count es
-  held = record { booleans = booleans; numbers = d .numbers; long = long; each = sound }
+  pub drawn-held : Held ds D t count es
+  drawn-held = record { booleans = booleans; numbers = d .numbers; long = long; each = sound }
 
   -- the second and the third group, of what lent memory holds
   abbrev second : List ℕ

@@ -1,5 +1,5 @@
--- WHAT LENT MEMORY HOLDS, whatever stands in it: levels by their domain ends, edges and nodes read back from words. Only the contracts of private functions
--- speak of it. Assumes nothing.
+-- WHAT LENT MEMORY HOLDS, whatever stands in it: edges and nodes read back from words. Only the contracts of private functions speak of it.
+-- Assumes nothing.
 use mathlib.Core.Path.{_≡_}
 use mathlib.Core.List.{List, map}
 use Prim.Native.Nat.{ℕ, suc, _+_, _*_, _-_, _≤_, _<_}

@@ -1,5 +1,5 @@
 -- WHAT THE REPLY SAYS: yes just where yes was said before the reply had a number, which is where the bytes are those of the words; and no with the number of
--- the first word that lacks its four bytes or differs from them, or with the count of words where only bytes are left over. By induction on the words.
+-- the first word whose bytes are not all there or are others, or with the count of words where all have theirs and more bytes follow. By induction on the words.
 -- Assumes nothing.
 use mathlib.Core.Path.{_≡_, refl, sym, ap, _∙_}
 use mathlib.Core.Logic.{_↔_, _⊎_, inl, inr, ⊎-elim}
@@ -22,11 +22,11 @@ pub record FirstApart (bs ws : List ℕ) (k : ℕ) : Type 0 where
   pub here : ((k < length ws) × (hasFour bs ws k ≡ false)) ⊎ ((k ≡ length ws) × (k * 4 < length bs))
 
 -- THE VALUES TELL THE REPLY: no two replies have the same.
-pub values-tell : (r s : Compared) → comparedValues r ≡ comparedValues s → r ≡ s
-values-tell Same Same e = refl
-values-tell Same (Differs k) e = let z : _≡_ {A = ℕ} 1 0 = λ i. e i .same in absurd (omega arith)
-values-tell (Differs k) Same e = let z : _≡_ {A = ℕ} 0 1 = λ i. e i .same in absurd (omega arith)
-values-tell (Differs j) (Differs k) e = λ i. Differs (e i .word)
+pub compared-values-tell : (r s : Compared) → comparedValues r ≡ comparedValues s → r ≡ s
+compared-values-tell Same Same e = refl
+compared-values-tell Same (Differs k) e = let z : _≡_ {A = ℕ} 1 0 = λ i. e i .same in absurd (omega arith)
+compared-values-tell (Differs k) Same e = let z : _≡_ {A = ℕ} 0 1 = λ i. e i .same in absurd (omega arith)
+compared-values-tell (Differs j) (Differs k) e = λ i. Differs (e i .word)
 
 -- ---- The bytes are those of the words, or there is such a number
 

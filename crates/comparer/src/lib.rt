@@ -6,8 +6,8 @@ ghost use Rattle.word.specs.Gives.{Gives};
 ghost use Rattle.comparer.specs.Bytes.{comparedValues, compared};
 ghost use Rattle.comparer.specs.Four.{hasFour, AllHave};
 
-// The reply: the bytes are those of the words; or the number of the first word that lacks its four bytes or differs from them, or the count of words where
-// only bytes are left over.
+// The reply: the bytes are those of the words; or the number of the first word whose bytes are not all there or are others, and the count of words where all
+// have theirs and more bytes follow.
 pub enum Compared {
     Same,
     Differs(usize),

@@ -1,3 +1,3 @@
--- Laws of the branches of a step, of the loop over the bytes, and of the promise.
+-- Laws of the loop over the bytes, and of the promise.
 pub mod Loop
 pub mod Once

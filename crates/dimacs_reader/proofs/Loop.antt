@@ -16,7 +16,7 @@ use Rattle.dimacs_text.specs.declared.Converted.{Converted}
 use Rattle.dimacs_text.specs.declared.Converted.the-variants.{Length, Refused}
 use Rattle.dimacs_text.specs.Claim.{Verdict, words, wrong, Says}
 use Rattle.dimacs_text.specs.Reply.{convertedValues, wordsReply, wordsSaid, convertedLeft}
-use Rattle.dimacs_text.specs.Machine.{State, Next, bad, on, put, step, final, later, with-word, go-on, run, start, Good}
+use Rattle.dimacs_text.specs.Machine.{State, Next, bad, on, put, step, final, oneLater, with-word, go-on, run, start, GoodState}
 use Rattle.dimacs_text.proofs.Fit.{Keeps, keeps}
 use Rattle.dimacs_text.proofs.Verdicts.{run-says}
 use Rattle.dimacs_text.proofs.Fitted.{fitted-in, fitted-out, left-as}
@@ -31,7 +31,7 @@ from acc i (wrong k) = wrong (i + k)
 pub record Mid (t first out : List ℕ) (s : State) (n i : ℕ) : Type 0 where
   pub size : length out ≡ length first
   pub within : i ≤ length t
-  pub good : Good s
+  pub good : GoodState s
   pub acc : List ℕ
   pub so-far : run start t ≡ from acc i (run s (drop i t))
   pub many : n ≡ length acc
@@ -44,11 +44,11 @@ mid-as {t} {first} {b} {s} {u} {n} {i} p q r m =
 
 -- ---- One byte
 
-from-later : (acc : List ℕ) (i : ℕ) (v : Verdict) → from acc i (later v) ≡ from acc (i + 1) v
+from-later : (acc : List ℕ) (i : ℕ) (v : Verdict) → from acc i (oneLater v) ≡ from acc (i + 1) v
 from-later acc i (words ws) = refl
 from-later acc i (wrong k) = ap wrong (omega arith)
 
-from-word : (acc : List ℕ) (i w : ℕ) (v : Verdict) → from acc i (with-word w (later v)) ≡ from (acc ++ (w ∷ [])) (i + 1) v
+from-word : (acc : List ℕ) (i w : ℕ) (v : Verdict) → from acc i (with-word w (oneLater v)) ≡ from (acc ++ (w ∷ [])) (i + 1) v
 from-word acc i w (words ws) = ap words (sym (append-assoc acc (w ∷ []) ws))
 from-word acc i w (wrong k) = ap wrong (omega arith)
 

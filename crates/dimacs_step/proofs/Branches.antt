@@ -5,7 +5,7 @@ use Prim.Native.Nat.{ℕ, suc, _+_, _-_, _*_, _≤_, _<_}
 use native.Mathlib.Numerals.{add-one}
 use lib.Dec.{leb}
 use borrow.Author.Tests.{ne-eqb, le-leb, lt-leb}
-use Rattle.dimacs_text.specs.Machine.{Good, Count, count}
+use Rattle.dimacs_text.specs.Machine.{GoodState, Count, count}
 use Rattle.dimacs_text.specs.Machine as machine
 use Rattle.dimacs_step.specs.declared.Phase.{Phase}
 use Rattle.dimacs_step.specs.declared.State.{State}
@@ -64,5 +64,5 @@ module _ (s : State) (p : Phase) (e : s .phase ≡ p) where
   pub final-in : (b : Bool) → b ≡ machine.final (state p (s .flag) (counts s) (s .value)) → b ≡ machine.final (view s)
   final-in b h = h ∙ ap machine.final (sym phase-is)
 
-  pub good-in : Good (view s) → Good (state p (s .flag) (counts s) (s .value))
-  good-in g = subst Good phase-is g
+  pub good-in : GoodState (view s) → GoodState (state p (s .flag) (counts s) (s .value))
+  good-in g = subst GoodState phase-is g

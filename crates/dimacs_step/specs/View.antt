@@ -1,4 +1,4 @@
--- THE READER'S STATE as a state of the machine that reads a byte at a time: for the contracts of functions inside this crate. Assumes nothing.
+-- THE READER'S STATE as a state of the machine that reads a byte at a time: for what our own functions promise each other. Assumes nothing.
 use mathlib.Core.Bool.{Bool, false, cond}
 use Prim.Native.Nat.{ℕ, _+_, _-_, _*_}
 use lib.Dec.{eqb, leb}

@@ -6,7 +6,7 @@ ghost use mathlib.Core.Bool.{cond, true, false, _&&_};
 ghost use Prim.Native.Nat.{_≤_, _-_};
 ghost use lib.Dec.{eqb};
 ghost use Rattle.word.specs.Word.{lastBoolean, endWord};
-ghost use Rattle.dimacs_text.specs.Machine.{Good, GoodCount, GoodOpen, count};
+ghost use Rattle.dimacs_text.specs.Machine.{GoodState, GoodCount, GoodOpen, count};
 ghost use Rattle.dimacs_text.specs.Machine as machine;
 ghost use Rattle.dimacs_step.specs.View.{at, counts, state, view, next, grown, opened};
 
@@ -235,7 +235,7 @@ fn close(s: State) -> Next
 // The blank behind a literal, with the literal's word.
 fn finish(s: State, b: u8) -> Next
     requires { ⌜ GoodOpen (counts s) × (s .value ≤ s .most) ⌝ }
-    ensures { λ r. ⌜ next r ≡ machine.ends (machine.literal (counts s) (s .flag)) (s .value) b ⌝ }
+    ensures { λ r. ⌜ next r ≡ machine.afterDigits (machine.literal (counts s) (s .flag)) (s .value) b ⌝ }
 {
     if is_blank(b) {
         let t = State {
@@ -379,7 +379,7 @@ fn second(s: State, b: u8) -> Next
 
 // What a byte leads to.
 pub fn step(s: State, b: u8) -> Next
-    requires { ⌜ Good (view s) ⌝ }
+    requires { ⌜ GoodState (view s) ⌝ }
     ensures { λ r. ⌜ next r ≡ machine.step (view s) b ⌝ }
 {
     let phase = s.phase;

@@ -14,17 +14,17 @@ use Rattle.text.specs.Decimal.{decimal}
 use Rattle.text.proofs.Decimals.{Decimal, digit, more, decimal-grows}
 use Rattle.dimacs_text.specs.Text
 use Rattle.dimacs_text.specs.Claim.{Verdict, words}
-use Rattle.dimacs_text.specs.Machine.{Count, count, Spot, before, after, Slot, afterP, afterCnf, afterFirst, Role, first, second, literal, State, gap, comment, seenP, seenC, seenCn, seenCnf, spaces, num, minus, closed, Next, on, put, blank?, space?, digit?, limit, start, lead, begin, step, final, later, with-word, go-on, run}
+use Rattle.dimacs_text.specs.Machine.{Count, count, Spot, before, after, Slot, afterP, afterCnf, afterFirst, Role, first, second, literal, State, gap, comment, seenP, seenC, seenCn, seenCnf, spaces, num, minus, closed, Next, on, put, blank?, space?, digit?, limit, start, lead, begin, step, final, oneLater, with-word, go-on, run}
 use Rattle.dimacs_text.proofs.Machine.{no-wrong}
 
 -- ---- One step
 pub on-reads : (s s′ : State) (b : ℕ) (t ws : List ℕ) → step s b ≡ on s′ → run s′ t ≡ words ws → run s (b ∷ t) ≡ words ws
 unfolding run
-on-reads s s′ b t ws e h = ap (λ (n : Next). go-on n (λ s″. run s″ t)) e ∙ ap later h
+on-reads s s′ b t ws e h = ap (λ (n : Next). go-on n (λ s″. run s″ t)) e ∙ ap oneLater h
 
 pub put-reads : (s s′ : State) (b w : ℕ) (t ws : List ℕ) → step s b ≡ put s′ w → run s′ t ≡ words ws → run s (b ∷ t) ≡ words (w ∷ ws)
 unfolding run
-put-reads s s′ b w t ws e h = ap (λ (n : Next). go-on n (λ s″. run s″ t)) e ∙ ap (λ (v : Verdict). with-word w (later v)) h
+put-reads s s′ b w t ws e h = ap (λ (n : Next). go-on n (λ s″. run s″ t)) e ∙ ap (λ (v : Verdict). with-word w (oneLater v)) h
 
 -- ---- Tests
 blank-yes : {b : ℕ} → Blank b → blank? b ≡ true

@@ -8,14 +8,14 @@ use borrow.Author.Tests.{leb-true, leb-false, eqb-false}
 use Rattle.word.specs.Word.{lastBoolean, lastCount, literalWord, endWord}
 use Rattle.word.proofs.Tests.{between-is}
 use Rattle.dimacs_text.specs.Text.{mostClauses}
-use Rattle.dimacs_text.specs.Machine.{GoodCount, GoodSpot, GoodSlot, GoodOpen, GoodRole, Good, Count, count, Spot, before, after, Slot, afterP, afterCnf, afterFirst, Role, first, second, literal, State, gap, comment, seenP, seenC, seenCn, seenCnf, spaces, num, minus, closed, Next, bad, on, put, blank?, space?, digit?, limit, lead, begin, opens, ends, step}
+use Rattle.dimacs_text.specs.Machine.{GoodCount, GoodSpot, GoodSlot, GoodOpen, GoodRole, GoodState, Count, count, Spot, before, after, Slot, afterP, afterCnf, afterFirst, Role, first, second, literal, State, gap, comment, seenP, seenC, seenCn, seenCnf, spaces, num, minus, closed, Next, bad, on, put, blank?, space?, digit?, limit, lead, begin, opens, afterDigits, step}
 use Rattle.dimacs_text.proofs.Machine.{cond-elim}
 
 -- ---- Steps keep to the limits, and their words fit
 abbrev pub Keeps : Next → Type 0
 Keeps bad = Unit
-Keeps (on s) = Good s
-Keeps (put s w) = Good s × (w < 4294967296)
+Keeps (on s) = GoodState s
+Keeps (put s w) = GoodState s × (w < 4294967296)
 
 word-fits : (says : Bool) (v : ℕ) → v ≤ lastBoolean → literalWord says v < 4294967296
 word-fits true v h = omega arith
@@ -49,7 +49,7 @@ keep-opens afterP b g = cond-elim Keeps (eqb b 99) (on seenC) bad (λ e. tt) (λ
 keep-opens afterCnf b g = cond-elim Keeps (digit? b) (on (num first (b - 48))) bad (λ e. omega (arith, digit-small b e)) (λ e. tt)
 keep-opens (afterFirst n) b g = cond-elim Keeps (digit? b) (on (num (second n) (b - 48))) bad (λ e. (g, omega (arith, digit-small b e))) (λ e. tt)
 
-keep-ends : (r : Role) (v b : ℕ) → GoodRole r v → Keeps (ends r v b)
+keep-ends : (r : Role) (v b : ℕ) → GoodRole r v → Keeps (afterDigits r v b)
 keep-ends first v b g = cond-elim Keeps (space? b) (on (spaces (afterFirst v))) bad (λ e. g) (λ e. tt)
 keep-ends (second n) v b g = cond-elim Keeps (blank? b) (on (gap (after (count n v 0)) (eqb b 10))) bad (λ e. (g .0, omega arith)) (λ e. tt)
 keep-ends (literal w says) v b g =
@@ -62,7 +62,7 @@ grown first v u g h = h
 grown (second n) v u g h = (g .0, h)
 grown (literal w says) v u g h = (g .0, h)
 
-pub keeps : (s : State) (b : ℕ) → Good s → Keeps (step s b)
+pub keeps : (s : State) (b : ℕ) → GoodState s → Keeps (step s b)
 unfolding step
 keeps (gap p f) b g = cond-elim Keeps (blank? b) (on (gap p (eqb b 10))) _ (λ e. g) (λ e. cond-elim Keeps (f && eqb b 99) (on (comment p)) (begin p b) (λ k. g) (λ k. keep-begin p b g))
 keeps (comment p) b g = cond-elim Keeps (eqb b 10) (on (gap p true)) (on (comment p)) (λ e. g) (λ e. g)
@@ -72,7 +72,7 @@ keeps seenCn b g = cond-elim Keeps (eqb b 102) (on seenCnf) bad (λ e. tt) (λ e
 keeps seenCnf b g = cond-elim Keeps (space? b) (on (spaces afterCnf)) bad (λ e. tt) (λ e. tt)
 keeps (spaces k) b g = cond-elim Keeps (space? b) (on (spaces k)) (opens k b) (λ e. g) (λ e. keep-opens k b g)
 keeps (num r v) b g =
-    cond-elim Keeps (digit? b) _ (ends r v b)
+    cond-elim Keeps (digit? b) _ (afterDigits r v b)
     (λ e. cond-elim Keeps (eqb v 0) bad _ (λ k. tt) (λ k. cond-elim Keeps (leb (10 * v + (b - 48)) (limit r)) (on (num r (10 * v + (b - 48)))) bad (λ h. grown r v _ g (leb-true _ _ h)) (λ h. tt)))
     (λ e. keep-ends r v b g)
 keeps (minus w) b g = keep-lead w false b (g .0)

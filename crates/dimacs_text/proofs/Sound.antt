@@ -15,7 +15,7 @@ use Rattle.text.proofs.Decimals.{Decimal, digit, more, grown-decimal}
 use Rattle.dimacs_text.specs.Text
 use Rattle.word.proofs.Tests.{both-true, between-is}
 use Rattle.dimacs_text.specs.Claim.{Verdict, words, wrong}
-use Rattle.dimacs_text.specs.Machine.{Count, count, Spot, before, after, Slot, afterP, afterCnf, afterFirst, Role, first, second, literal, State, gap, comment, seenP, seenC, seenCn, seenCnf, spaces, num, minus, closed, Next, bad, on, put, blank?, space?, digit?, limit, start, lead, begin, opens, ends, step, final, later, with-word, go-on, run}
+use Rattle.dimacs_text.specs.Machine.{Count, count, Spot, before, after, Slot, afterP, afterCnf, afterFirst, Role, first, second, literal, State, gap, comment, seenP, seenC, seenCn, seenCnf, spaces, num, minus, closed, Next, bad, on, put, blank?, space?, digit?, limit, start, lead, begin, opens, afterDigits, step, final, oneLater, with-word, go-on, run}
 use Rattle.dimacs_text.proofs.Machine.{cond-elim, no-wrong}
 
 -- ---- Tests, taken apart
@@ -225,7 +225,7 @@ back-spaces k b t ws =
 grown-then : {v : ℕ} {x : List ℕ} → Decimal v x → (t : List ℕ) → x ++ t ≡ decimal v ++ t
 grown-then d t = ap (λ (y : List ℕ). y ++ t) (grown-decimal d)
 
-back-ends : (r : Role) (v b : ℕ) (t ws : List ℕ) → Back (num r v) b t ws (ends r v b)
+back-ends : (r : Role) (v b : ℕ) (t ws : List ℕ) → Back (num r v) b t ws (afterDigits r v b)
 back-ends first v b t ws =
     cond-elim (Back (num first v) b t ws) (space? b) (on (spaces (afterFirst v))) bad
     (λ e r x d h m. (v, b ∷ t, grown-then d (b ∷ t), h, r (b ∷ []) (omega arith, (space-is b e, tt))))
@@ -250,7 +250,7 @@ made-more (literal w says) v b p m = (omega arith, m .1, m .2)
 back-num : (r : Role) (v b : ℕ) (t ws : List ℕ) → Back (num r v) b t ws (step (num r v) b)
 unfolding step
 back-num r v b t ws =
-    cond-elim P (digit? b) (cond (eqb v 0) bad (cond (leb (10 * v + (b - 48)) (limit r)) (on (num r (10 * v + (b - 48)))) bad)) (ends r v b)
+    cond-elim P (digit? b) (cond (eqb v 0) bad (cond (leb (10 * v + (b - 48)) (limit r)) (on (num r (10 * v + (b - 48)))) bad)) (afterDigits r v b)
     (λ e. cond-elim P (eqb v 0) bad (cond (leb (10 * v + (b - 48)) (limit r)) (on (num r (10 * v + (b - 48)))) bad) (λ e₂. tt)
     (λ e₂. cond-elim P (leb (10 * v + (b - 48)) (limit r)) (on (num r (10 * v + (b - 48)))) bad
     (λ e₃ k x d h m.
@@ -311,7 +311,7 @@ stops (num (literal w says) v) e = false-not e
 stops (minus w) e = false-not e
 stops (closed w) e = none-left (w .most) false (w .literals) (w .left) [] (eqb-true _ _ e) (whole none)
 
-pub later-words : (v : Verdict) (ws : List ℕ) → later v ≡ words ws → v ≡ words ws
+pub later-words : (v : Verdict) (ws : List ℕ) → oneLater v ≡ words ws → v ≡ words ws
 later-words (words xs) ws e = e
 later-words (wrong k) ws e = no-wrong (suc k) ws e
 
@@ -332,7 +332,7 @@ sound (b ∷ t) s ws h = go (λ s′ xs. sound t s′ xs) (step s b) (back s b t
     go rec bad k e = no-wrong 0 ws e
     go rec (on s′) k e = k ws (rec s′ ws (later-words (run s′ t) ws e))
     go rec (put s′ w) k e =
-        let q = word-words w (later (run s′ t)) ws e in
+        let q = word-words w (oneLater (run s′ t)) ws e in
         subst (Rest s (b ∷ t)) (sym (q .1)) (k (q .0) (rec s′ (q .0) (later-words (run s′ t) (q .0) (q .2))))
 
 -- EVERY TEXT THAT IS READ IS LEGAL, with the words read

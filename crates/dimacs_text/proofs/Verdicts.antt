@@ -11,11 +11,11 @@ use Rattle.dimacs_text.specs.Machine.{start, run}
 use Rattle.dimacs_text.proofs.Machine.{no-wrong}
 use Rattle.dimacs_text.proofs.Accepts.{legal-read}
 use Rattle.dimacs_text.proofs.Sound.{read-legal}
-use Rattle.dimacs_text.proofs.Viable.{place}
+use Rattle.dimacs_text.proofs.Viable.{wrong-place}
 
 wrong-at : (t : List ℕ) (k : ℕ) → run start t ≡ wrong k → WrongAt t k
 wrong-at t k h =
-    let p = place t start k tt h in
+    let p = wrong-place t start k tt h in
     record {
       within = p .within;
       possible = (p .possible .0, p .possible .1, read-legal _ _ (p .possible .2));

@@ -9,7 +9,7 @@ use lib.ListN.{length, take}
 use borrow.Author.Tests.{le-leb}
 use Rattle.word.specs.Word.{literalWord, endWord}
 use Rattle.dimacs_text.specs.Claim.{Verdict, words, wrong}
-use Rattle.dimacs_text.specs.Machine.{Good, count, before, after, afterP, afterCnf, afterFirst, Role, first, second, literal, State, gap, comment, seenP, seenC, seenCn, seenCnf, spaces, num, minus, closed, Next, bad, on, put, step, final, later, with-word, go-on, run}
+use Rattle.dimacs_text.specs.Machine.{GoodState, count, before, after, afterP, afterCnf, afterFirst, Role, first, second, literal, State, gap, comment, seenP, seenC, seenCn, seenCnf, spaces, num, minus, closed, Next, bad, on, put, step, final, oneLater, with-word, go-on, run}
 use Rattle.dimacs_text.proofs.Fit.{Keeps, keeps}
 use Rattle.dimacs_text.proofs.Machine.{no-wrong}
 use Rattle.dimacs_text.proofs.Accepts.{on-reads, put-reads, step-begin, step-close}
@@ -57,7 +57,7 @@ num-done (second n) v = step-done (num (second n) v) (gap (after (count n v 0)) 
 num-done (literal w says) v =
     put-done (num (literal w says) v) (gap (after (count (w .most) (w .left) (suc (w .literals)))) false) 32 (literalWord says v) refl (gap-done (w .most) (w .left) (suc (w .literals)) false)
 
-completes : (s : State) → Good s → Done s
+completes : (s : State) → GoodState s → Done s
 unfolding step run final
 completes (gap before f) g = lead-done f
 completes (gap (after w) f) g = gap-done (w .most) (w .left) (w .literals) f
@@ -80,7 +80,7 @@ pub record Place (s : State) (t : List ℕ) (k : ℕ) : Type 0 where
   pub possible : (u ws : List ℕ) × (run s (take k t ++ u) ≡ words ws)
   pub hopeless : k < length t → (u ws : List ℕ) → run s (take (suc k) t ++ u) ≡ words ws → ⊥
 
-later-wrong : (v : Verdict) (k : ℕ) → later v ≡ wrong k → (j : ℕ) × (k ≡ suc j) × (v ≡ wrong j)
+later-wrong : (v : Verdict) (k : ℕ) → oneLater v ≡ wrong k → (j : ℕ) × (k ≡ suc j) × (v ≡ wrong j)
 later-wrong (words ws) k e = no-wrong k ws (sym e)
 later-wrong (wrong j) k e = (j, cc, refl)
 
@@ -102,22 +102,22 @@ place-put s s′ b w t j e p = record {
   within = suc-le-suc (p .within);
   possible = let q = p .possible in (q .0, w ∷ q .1, put-reads s s′ b w (take j t ++ q .0) (q .1) e (q .2));
   hopeless = λ h u ws z.
-      let y = word-words w (later (run s′ (take (suc j) t ++ u))) ws (ap (λ (n : Next). go-on n (λ s″. run s″ (take (suc j) t ++ u))) (sym e) ∙ z) in
+      let y = word-words w (oneLater (run s′ (take (suc j) t ++ u))) ws (ap (λ (n : Next). go-on n (λ s″. run s″ (take (suc j) t ++ u))) (sym e) ∙ z) in
       p .hopeless (le-of-suc-le-suc h) u (y .0) (later-words _ (y .0) (y .2));
 }
 
-pub place : (t : List ℕ) (s : State) (k : ℕ) → Good s → run s t ≡ wrong k → Place s t k
+pub wrong-place : (t : List ℕ) (s : State) (k : ℕ) → GoodState s → run s t ≡ wrong k → Place s t k
 unfolding run
-place [] s k g h = go (final s) refl h
+wrong-place [] s k g h = go (final s) refl h
   where
     go : (p : Bool) → final s ≡ p → cond p (words []) (wrong 0) ≡ wrong k → Place s [] k
     go true e z = no-wrong k [] (sym z)
     go false e z =
         let y : 0 ≡ k = cc in
         subst (Place s []) y (record { within = zero-le; possible = completes s g; hopeless = λ q. absurd (not-suc-le-zero q) })
-place (b ∷ t) s k g h = go (λ s′ j. place t s′ j) (step s b) refl (keeps s b g) h
+wrong-place (b ∷ t) s k g h = go (λ s′ j. wrong-place t s′ j) (step s b) refl (keeps s b g) h
   where
-    go : ((s′ : State) (j : ℕ) → Good s′ → run s′ t ≡ wrong j → Place s′ t j) → (n : Next) → step s b ≡ n → Keeps n → go-on n (λ s′. run s′ t) ≡ wrong k → Place s (b ∷ t) k
+    go : ((s′ : State) (j : ℕ) → GoodState s′ → run s′ t ≡ wrong j → Place s′ t j) → (n : Next) → step s b ≡ n → Keeps n → go-on n (λ s′. run s′ t) ≡ wrong k → Place s (b ∷ t) k
     go rec bad e i z =
         let y : 0 ≡ k = cc in
         subst (Place s (b ∷ t)) y
@@ -130,5 +130,5 @@ place (b ∷ t) s k g h = go (λ s′ j. place t s′ j) (step s b) refl (keeps 
         let y = later-wrong (run s′ t) k z in
         subst (Place s (b ∷ t)) (sym (y .1)) (place-on s s′ b t (y .0) e (rec s′ (y .0) i (y .2)))
     go rec (put s′ w) e i z =
-        let y = later-wrong (run s′ t) k (word-wrong w (later (run s′ t)) k z) in
+        let y = later-wrong (run s′ t) k (word-wrong w (oneLater (run s′ t)) k z) in
         subst (Place s (b ∷ t)) (sym (y .1)) (place-put s s′ b w t (y .0) e (rec s′ (y .0) (i .0) (y .2)))

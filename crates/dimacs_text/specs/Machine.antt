@@ -88,10 +88,10 @@ opens afterP b = cond (eqb b 99) (on seenC) bad
 opens afterCnf b = cond (digit? b) (on (num first (b - 48))) bad
 opens (afterFirst n) b = cond (digit? b) (on (num (second n) (b - 48))) bad
 
-abbrev pub ends : Role → ℕ → ℕ → Next
-ends first v b = cond (space? b) (on (spaces (afterFirst v))) bad
-ends (second n) v b = cond (blank? b) (on (gap (after (count n v 0)) (eqb b 10))) bad
-ends (literal w says) v b = cond (blank? b) (put (gap (after (count (w .most) (w .left) (suc (w .literals)))) (eqb b 10)) (literalWord says v)) bad
+abbrev pub afterDigits : Role → ℕ → ℕ → Next
+afterDigits first v b = cond (space? b) (on (spaces (afterFirst v))) bad
+afterDigits (second n) v b = cond (blank? b) (on (gap (after (count n v 0)) (eqb b 10))) bad
+afterDigits (literal w says) v b = cond (blank? b) (put (gap (after (count (w .most) (w .left) (suc (w .literals)))) (eqb b 10)) (literalWord says v)) bad
 
 unfoldable pub step : State → ℕ → Next
 step (gap s f) b = cond (blank? b) (on (gap s (eqb b 10))) (cond (f && eqb b 99) (on (comment s)) (begin s b))
@@ -102,7 +102,7 @@ step seenCn b = cond (eqb b 102) (on seenCnf) bad
 step seenCnf b = cond (space? b) (on (spaces afterCnf)) bad
 step (spaces k) b = cond (space? b) (on (spaces k)) (opens k b)
 step (num r v) b =
-    cond (digit? b) (cond (eqb v 0) bad (cond (leb (10 * v + (b - 48)) (limit r)) (on (num r (10 * v + (b - 48)))) bad)) (ends r v b)
+    cond (digit? b) (cond (eqb v 0) bad (cond (leb (10 * v + (b - 48)) (limit r)) (on (num r (10 * v + (b - 48)))) bad)) (afterDigits r v b)
 step (minus w) b = lead w false b
 step (closed w) b = cond (blank? b) (on (gap (after w) (eqb b 10))) bad
 
@@ -129,9 +129,9 @@ final (minus w) = false
 final (closed w) = eqb (w .left) 0
 
 -- the verdict on a text, byte by byte
-abbrev pub later : Verdict → Verdict
-later (words ws) = words ws
-later (wrong k) = wrong (suc k)
+abbrev pub oneLater : Verdict → Verdict
+oneLater (words ws) = words ws
+oneLater (wrong k) = wrong (suc k)
 
 abbrev pub with-word : ℕ → Verdict → Verdict
 with-word w (words ws) = words (w ∷ ws)
@@ -139,8 +139,8 @@ with-word w (wrong k) = wrong k
 
 abbrev pub go-on : Next → (State → Verdict) → Verdict
 go-on bad k = wrong 0
-go-on (on s) k = later (k s)
-go-on (put s w) k = with-word w (later (k s))
+go-on (on s) k = oneLater (k s)
+go-on (put s w) k = with-word w (oneLater (k s))
 
 unfoldable pub run : State → List ℕ → Verdict
 run s [] = cond (final s) (words []) (wrong 0)
@@ -168,14 +168,14 @@ GoodRole first v = v ≤ lastBoolean
 GoodRole (second n) v = (n ≤ lastBoolean) × (v ≤ mostClauses)
 GoodRole (literal w says) v = GoodOpen w × (v ≤ w .most)
 
-abbrev pub Good : State → Type 0
-Good (gap p f) = GoodSpot p
-Good (comment p) = GoodSpot p
-Good seenP = Unit
-Good seenC = Unit
-Good seenCn = Unit
-Good seenCnf = Unit
-Good (spaces k) = GoodSlot k
-Good (num r v) = GoodRole r v
-Good (minus w) = GoodOpen w × (0 < w .most)
-Good (closed w) = GoodCount w
+abbrev pub GoodState : State → Type 0
+GoodState (gap p f) = GoodSpot p
+GoodState (comment p) = GoodSpot p
+GoodState seenP = Unit
+GoodState seenC = Unit
+GoodState seenCn = Unit
+GoodState seenCnf = Unit
+GoodState (spaces k) = GoodSlot k
+GoodState (num r v) = GoodRole r v
+GoodState (minus w) = GoodOpen w × (0 < w .most)
+GoodState (closed w) = GoodCount w

@@ -46,10 +46,10 @@ module _ (ws out : List ℕ) (h : Header) (ok : listFrom lastBoolean 0 0 ws ≡ 
       let full : leb (length (written ws)) (length out) ≡ false = ap (λ (t : List ℕ). leb (length t) (length out)) (sym (under ws h e)) ∙ f in
       known (Refused NoRoom) (g .0) (rw (ok, full)) (g .1)
 
-  pub whole : {mid out′ : List ℕ} {n : ℕ} → leb (length (textUnder h ws)) (length out) ≡ true → Wrote (textUnder h ws) 0 out mid n → out′ ≡ cleared n mid
+  pub text-whole : {mid out′ : List ℕ} {n : ℕ} → leb (length (textUnder h ws)) (length out) ≡ true → Wrote (textUnder h ws) 0 out mid n → out′ ≡ cleared n mid
       → Writes ws out out′ (Length n)
   unfolding fitted
-  whole {mid} {n} f w g =
+  text-whole {mid} {n} f w g =
       let fit : leb (length (written ws)) (length out) ≡ true = ap (λ (t : List ℕ). leb (length t) (length out)) (sym (under ws h e)) ∙ f in
       let all : take (length out) (written ws) ≡ written ws = take-all (length out) (written ws) (leb-true (length (written ws)) (length out) fit) in
       let p = wrote-as (under ws h e) w in

@@ -7,11 +7,10 @@ use Rattle.word.specs.Padded.{padded}
 use Rattle.refusal.specs.declared.Refusal.{Refusal}
 use Rattle.diagram.specs.Flat.{tableWords, edgeWords}
 use Rattle.diagram.specs.Constraint.{Constraint}
-use Rattle.encoding.specs.Pattern.{clauseWords}
 use Rattle.encoder_levels.specs.declared.Encoded.{Encoded}
 use Rattle.encoder_levels.specs.declared.Encoded.the-variants.{Accepted, Refused}
 use Rattle.encoder_levels.specs.Reply.{countsWithin}
-use Rattle.filler.specs.Filled.{levelsIn, nodesFor, rootFor}
+use Rattle.filler.specs.Filled.{nodesFor, clausesFor}
 
 -- All three lists are zeroed, and the reply is the refusal.
 pub record Cleared (x : Refusal) (t e w t′ e′ w′ : List ℕ) (r : Encoded) : Type 0 where
@@ -30,4 +29,4 @@ pub record Answered (c : Constraint) (t e w t′ e′ w′ : List ℕ) (r : Enco
   pub reply : r ≡ countsWithin c (length t) (length e) (length w)
   pub table : t′ ≡ leftIn r (length t) (tableWords (nodesFor c))
   pub edges : e′ ≡ leftIn r (length e) (edgeWords (nodesFor c))
-  pub clauses : w′ ≡ leftIn r (length w) (clauseWords (levelsIn c) (rootFor c) (nodesFor c))
+  pub clauses : w′ ≡ leftIn r (length w) (clausesFor c)

@@ -16,7 +16,7 @@ use Rattle.diagram.specs.Table.{Node, table, root}
 use Rattle.diagram.specs.Right.{Right}
 use Rattle.diagram.specs.Flat.{recordsFrom, tableWords, edgeWords, edgeCount}
 use Rattle.diagram.proofs.Drawn.{table-right}
-use Rattle.diagram.proofs.Written.{records-length, edges-count}
+use Rattle.diagram.proofs.Written.{recordsFrom-length, edges-count}
 use Rattle.diagram.proofs.Terms.{levels-length}
 use Rattle.encoding.specs.Boolean.{orders}
 use Rattle.encoding.specs.Pattern.{clauseWords, wordCount}
@@ -75,11 +75,11 @@ module _ (cs ds rs : List ℕ) (L : Lent cs ds rs) (a : ℕ) where
     drawn n es ws t′ es′ M K = record { ls = ls; ns = ns; drawing = drawing es t′ es′ K; fits = M .long }
 
     -- to the result
-    pub filled : (n : Counts) (es ws t′ es′ ws′ t″ es″ ws″ : List ℕ) (r : ℕ) → count ≡ n .nodes → Roomy (constraintOf cs ds a) n es ws → Linked cs ds a t count es t′ es′
+    pub lists-filled : (n : Counts) (es ws t′ es′ ws′ t″ es″ ws″ : List ℕ) (r : ℕ) → count ≡ n .nodes → Roomy (constraintOf cs ds a) n es ws → Linked cs ds a t count es t′ es′
         → Listed ls ns e ws ws′ r
         → t″ ≡ cleared (count * 4) t′ → es″ ≡ cleared (n .edges) es′ → ws″ ≡ cleared (n .words) ws′
         → Filled (constraintOf cs ds a) t es ws t″ es″ ws″
-    filled n es ws t′ es′ ws′ t″ es″ ws″ r q M K W p₁ p₂ p₃ =
+    lists-filled n es ws t′ es′ ws′ t″ es″ ws″ r q M K W p₁ p₂ p₃ =
         record {
           table = p₁ ∙ cleared-padded t′ (tableWords ns) (length t) (count * 4) (used-words t′ count (let h = B .room in omega arith) ∙ ap flat (K .records)) table-long (K .table-kept);
           edges = p₂ ∙ cleared-padded es′ (edgeWords ns) (length es) (n .edges) (ap (λ (k : ℕ). take k es′) (M .edges) ∙ K .edges) (edges-length ∙ sym (M .edges)) (K .edges-kept);
@@ -87,7 +87,7 @@ module _ (cs ds rs : List ℕ) (L : Lent cs ds rs) (a : ℕ) where
         }
       where
         table-long : length (tableWords ns) ≡ count * 4
-        table-long = omega (arith, flat-length (recordsFrom 0 ns), records-length 0 ns, B .counted)
+        table-long = omega (arith, flat-length (recordsFrom 0 ns), recordsFrom-length 0 ns, B .counted)
 
         words-front : take (n .words) ws′ ≡ clauseWords ls top ns
         words-front = ap (λ (k : ℕ). take k ws′) (M .words ∙ sym (W .words)) ∙ W .front ∙ ap (λ (x : Edge). clauseWords ls x ns) (B .root)

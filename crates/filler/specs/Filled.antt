@@ -17,7 +17,7 @@ use Rattle.constraint.specs.Lent.{termsOf}
 use Rattle.linker.specs.Sum.{endSum}
 use Rattle.filler.specs.declared.Counts.{Counts}
 
--- A constraint's levels, its table, and its root.
+-- A constraint's levels, its table, its root, and its clause words.
 abbrev pub levelsIn : Constraint → List Level
 levelsIn c = levels (c .terms)
 
@@ -26,6 +26,9 @@ nodesFor c = table (levelsIn c) (c .bound)
 
 abbrev pub rootFor : Constraint → Edge
 rootFor c = root (levelsIn c) (c .bound)
+
+abbrev pub clausesFor : Constraint → List ℕ
+clausesFor c = clauseWords (levelsIn c) (rootFor c) (nodesFor c)
 
 -- The constraint of two slices and a bound.
 abbrev pub constraintOf : List ℕ → List ℕ → ℕ → Constraint
@@ -57,4 +60,4 @@ pub record Roomy (c : Constraint) (n : Counts) (e w : List ℕ) : Type 0 where
 pub record Filled (c : Constraint) (t e w t′ e′ w′ : List ℕ) : Type 0 where
   pub table : t′ ≡ padded (length t) (tableWords (nodesFor c))
   pub edges : e′ ≡ padded (length e) (edgeWords (nodesFor c))
-  pub clauses : w′ ≡ padded (length w) (clauseWords (levelsIn c) (rootFor c) (nodesFor c))
+  pub clauses : w′ ≡ padded (length w) (clausesFor c)

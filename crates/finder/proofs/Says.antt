@@ -67,7 +67,7 @@ one-more x xs i wanted r e h zero l = e
 one-more x xs i wanted r e h (suc j) l = h j (le-of-suc-le-suc l)
 
 -- The reply n, where the list's own first record has the number k, is record i of the list.
-pub record First (xs : List Record) (k wanted r n : ℕ) : Type 0 where
+pub record FirstHolding (xs : List Record) (k wanted r n : ℕ) : Type 0 where
   pub i : ℕ
   pub number : n ≡ k + i
   pub within : i < length xs
@@ -78,19 +78,19 @@ pub not-both : (n gap : ℕ) → At (record { 0 = n }) ≡ Nothing gap → ⊥
 not-both n gap e = let z : _≡_ {A = ℕ} 0 1 = cc in omega arith
 
 -- THE VALUES TELL THE REPLY: no two replies have the same.
-pub values-tell : (f g : Found) → foundValues f ≡ foundValues g → f ≡ g
-values-tell (At j) (At k) e = λ i. At (record { 0 = e i .number })
-values-tell (At k) (Nothing gap) e = let z : _≡_ {A = ℕ} 1 0 = λ i. e i .found in absurd (omega arith)
-values-tell (Nothing gap) (At k) e = let z : _≡_ {A = ℕ} 0 1 = λ i. e i .found in absurd (omega arith)
-values-tell (Nothing gap) (Nothing wide) e = λ i. Nothing (e i .number)
+pub found-values-tell : (f g : Found) → foundValues f ≡ foundValues g → f ≡ g
+found-values-tell (At j) (At k) e = λ i. At (record { 0 = e i .number })
+found-values-tell (At k) (Nothing gap) e = let z : _≡_ {A = ℕ} 1 0 = λ i. e i .found in absurd (omega arith)
+found-values-tell (Nothing gap) (At k) e = let z : _≡_ {A = ℕ} 0 1 = λ i. e i .found in absurd (omega arith)
+found-values-tell (Nothing gap) (Nothing wide) e = λ i. Nothing (e i .number)
 
-pub found-says : (xs : List Record) (k gap wanted r n : ℕ) → findFrom k gap xs wanted r ≡ At (record { 0 = n }) → First xs k wanted r n
+pub found-says : (xs : List Record) (k gap wanted r n : ℕ) → findFrom k gap xs wanted r ≡ At (record { 0 = n }) → FirstHolding xs k wanted r n
 unfolding findFrom
 found-says [] k gap wanted r n e = absurd (not-both n gap (sym e))
 found-says (x ∷ xs) k gap wanted r n e = go (holds x wanted r) refl (λ q. found-says xs (suc k) gap wanted r n q) e
   where
-    go : (b : Bool) → holds x wanted r ≡ b → (findFrom (suc k) gap xs wanted r ≡ At (record { 0 = n }) → First xs (suc k) wanted r n)
-        → cond b (At (record { 0 = k })) (findFrom (suc k) gap xs wanted r) ≡ At (record { 0 = n }) → First (x ∷ xs) k wanted r n
+    go : (b : Bool) → holds x wanted r ≡ b → (findFrom (suc k) gap xs wanted r ≡ At (record { 0 = n }) → FirstHolding xs (suc k) wanted r n)
+        → cond b (At (record { 0 = k })) (findFrom (suc k) gap xs wanted r) ≡ At (record { 0 = n }) → FirstHolding (x ∷ xs) k wanted r n
     go true h again q =
         let same : k ≡ n = λ i. foundValues (q i) .number in
         record { i = 0; number = omega arith; within = suc-le-suc zero-le; held = h; before = λ j l. absurd (not-suc-le-zero l) }

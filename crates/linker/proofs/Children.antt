@@ -34,7 +34,7 @@ use Rattle.linker.specs.Sum.{endOf, endSum, Countable}
 use Rattle.linker.specs.Row.{edgeFound, leadsTo, rowOf, rowAt, rowsOf, linkedFrom}
 use Rattle.linker.specs.Linked.{slicedNodes, Finished, Linked}
 use Rattle.builder.proofs.Diagram.{label-ends, table-sorted}
-use Rattle.linker.proofs.Laws.{level-of, table-countable, edge-sum}
+use Rattle.linker.proofs.Laws.{slice-level, table-countable, edge-sum}
 use Rattle.linker.proofs.Turns.{Done}
 
 -- the word of what is found fits
@@ -84,7 +84,7 @@ module _ (ls : List Level) (a : ℤ) (g : AllAscend ls) (small : (i : ℕ) → R
       (ap edgeFound (find-there (map (recordOf 0) ns) (table-sorted ls g a small) level r (recordOf 0 (nodeAt ns n)) at (h .0 .1 ∙ sym p) (h .1 .0) (h .1 .1)))
 
 -- What linking needs of the records, the ends and the edges.
-pub record Ready (ds t : List ℕ) (count : ℕ) (es : List ℕ) : Type 0 where
+pub record Linkable (ds t : List ℕ) (count : ℕ) (es : List ℕ) : Type 0 where
   pub countable : Countable ds t count
   pub sorted : Sorted (used t count)
   pub wide : count + endSum ds (used t count) ≤ length es
@@ -134,7 +134,7 @@ module _ (cs ds rs : List ℕ) (L : Lent cs ds rs) where
       sum-is = edge-sum cs ds rs L (slicedNodes cs ds a) (used t count) 0 (done .records) ∙ ap (λ (n : ℕ). n + endSum ds (used t count)) (sym counted)
 
       -- A FINISHED TABLE is ready to be linked
-      pub ready : Ready ds t count es
+      pub ready : Linkable ds t count es
       ready = record {
         countable = table-countable cs ds rs L 0 a t count (done .few) (done .room) (done .records);
         sorted = rw (done .records) (table-sorted (levelsOf cs ds) (levels-good cs ds rs L) (pos a) small);
@@ -156,8 +156,8 @@ module _ (cs ds rs : List ℕ) (L : Lent cs ds rs) where
           }
         where
           places : (m : ℕ) → m < length (slicedNodes cs ds a) → length (nodeAt (slicedNodes cs ds a) m .children) ≡ endOf ds (recordOf 0 (nodeAt (slicedNodes cs ds a) m)) + 1
-          places m h = let x = level-of cs ds rs L a m h in rw (x .3) (omega (arith, children-count m (x .0) (x .1) (x .2)))
+          places m h = let x = slice-level cs ds rs L a m h in rw (x .3) (omega (arith, children-count m (x .0) (x .1) (x .2)))
 
           rows : (m : ℕ) → m < length (slicedNodes cs ds a)
               → rowAt cs ds rs (map (recordOf 0) (slicedNodes cs ds a)) (nodeAt (slicedNodes cs ds a) m .level - 1) (nodeAt (slicedNodes cs ds a) m .lab .lower) ≡ map edgeWord (nodeAt (slicedNodes cs ds a) m .children)
-          rows m h = let x = level-of cs ds rs L a m h in rw (x .3) (row-is m (x .0) (x .1) (x .2))
+          rows m h = let x = slice-level cs ds rs L a m h in rw (x .3) (row-is m (x .0) (x .1) (x .2))

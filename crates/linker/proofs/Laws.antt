@@ -49,8 +49,8 @@ module _ (cs ds rs : List ℕ) (L : Lent cs ds rs) where
   ends-fit i h = term-at cs ds rs L i (omega (arith, L .ends)) .1
 
   -- a node's level is one of the slices'
-  pub level-of : (a n : ℕ) → n < length (slicedNodes cs ds a) → (i : ℕ) × (i < length cs) × OfLevel (slicedNodes cs ds a) i n × (nodeAt (slicedNodes cs ds a) n .level - 1 ≡ i)
-  level-of a n h =
+  pub slice-level : (a n : ℕ) → n < length (slicedNodes cs ds a) → (i : ℕ) × (i < length cs) × OfLevel (slicedNodes cs ds a) i n × (nodeAt (slicedNodes cs ds a) n .level - 1 ≡ i)
+  slice-level a n h =
       let x = whole (levelsOf cs ds) (pos a) (levels-good cs ds rs L) .levelled n h in
       (x .0, omega (arith, x .1, levels-count cs ds rs L), x .2, omega (arith, x .2 .1))
 
@@ -59,7 +59,7 @@ module _ (cs ds rs : List ℕ) (L : Lent cs ds rs) where
   table-levelled f a k h =
       let ns = slicedNodes cs ds a in
       let l : k < length ns = omega (arith, length-map ns (recordOf f)) in
-      let x = level-of a k l in
+      let x = slice-level a k l in
       rw (map-at (recordOf f) ns k noRecord noNode l) (omega (arith, x .2 .1), omega (arith, x .2 .1, x .1, L .ends))
 
   -- THE SUM OVER THE TABLE may be taken

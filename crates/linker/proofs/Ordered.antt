@@ -17,8 +17,8 @@ abbrev pub bare : Record → Record
 bare x = placed 0 x
 
 -- Two lists of records that differ in first places only.
-abbrev pub Alike : List Record → List Record → Type 0
-Alike xs ys = map bare xs ≡ map bare ys
+abbrev pub AlikeBare : List Record → List Record → Type 0
+AlikeBare xs ys = map bare xs ≡ map bare ys
 
 gap-bare : (xs : List Record) (wanted r : ℕ) → gapIn (map bare xs) wanted r ≡ gapIn xs wanted r
 unfolding gapIn
@@ -33,7 +33,7 @@ find-bare k gap (x ∷ xs) wanted r = ap (cond (holds x wanted r) (At (record { 
 reply-bare : (xs : List Record) (wanted r : ℕ) → findIn (map bare xs) wanted r ≡ findIn xs wanted r
 reply-bare xs wanted r = ap (λ (n : ℕ). findFrom 0 n (map bare xs) wanted r) (gap-bare xs wanted r) ∙ find-bare 0 (gapIn xs wanted r) xs wanted r
 
-pub find-alike : (xs ys : List Record) → Alike xs ys → (wanted r : ℕ) → findIn xs wanted r ≡ findIn ys wanted r
+pub find-alike : (xs ys : List Record) → AlikeBare xs ys → (wanted r : ℕ) → findIn xs wanted r ≡ findIn ys wanted r
 find-alike xs ys e wanted r = sym (reply-bare xs wanted r) ∙ ap (λ (zs : List Record). findIn zs wanted r) e ∙ reply-bare ys wanted r
 
 all-up : (x : Record) (ys : List Record) → All (Before x) ys → All (Before (bare x)) (map bare ys)
@@ -56,10 +56,10 @@ unfolding Sorted
 sorted-down [] s = tt
 sorted-down (x ∷ xs) s = (s .0, all-down x xs (s .1), sorted-down xs (s .2))
 
-pub sorted-alike : (xs ys : List Record) → Alike xs ys → Sorted xs → Sorted ys
+pub sorted-alike : (xs ys : List Record) → AlikeBare xs ys → Sorted xs → Sorted ys
 sorted-alike xs ys e s = sorted-down ys (subst Sorted e (sorted-up xs s))
 
-pub levelled-alike : (n : ℕ) (xs ys : List Record) → Alike xs ys → Levelled n xs → Levelled n ys
+pub levelled-alike : (n : ℕ) (xs ys : List Record) → AlikeBare xs ys → Levelled n xs → Levelled n ys
 levelled-alike n xs ys e v k h =
     let l : k < length xs = omega (arith, length-map xs bare, length-map ys bare, ap length e) in
     let same : bare (getD xs k noRecord) ≡ bare (getD ys k noRecord) =

@@ -22,16 +22,16 @@ use Rattle.finder.specs.Find.{findIn}
 use Rattle.word.proofs.Flat.{recordAt, records-length, record-at, used-length, used-at}
 use Rattle.linker.specs.Sum.{endSum, Countable}
 use Rattle.linker.specs.Row.{edgeFound, leadsTo, rowOf, rowAt, rowsOf, placed, linkedFrom}
-use Rattle.linker.proofs.Ordered.{bare, Alike, find-alike}
+use Rattle.linker.proofs.Ordered.{bare, AlikeBare, find-alike}
 
 -- ---- A row
 
 -- records that differ in first places only lead alike, and have one row
-leads-alike : (xs ys : List Record) → Alike xs ys → (level top : ℕ) (z : ℤ) → leadsTo xs level top z ≡ leadsTo ys level top z
+leads-alike : (xs ys : List Record) → AlikeBare xs ys → (level top : ℕ) (z : ℤ) → leadsTo xs level top z ≡ leadsTo ys level top z
 leads-alike xs ys e level top (negsuc z) = refl
 leads-alike xs ys e level top (pos r) = rw (find-alike xs ys e level r)
 
-row-alike : (xs ys : List Record) → Alike xs ys → (level top coef end lower : ℕ) → rowOf xs level top coef end lower ≡ rowOf ys level top coef end lower
+row-alike : (xs ys : List Record) → AlikeBare xs ys → (level top coef end lower : ℕ) → rowOf xs level top coef end lower ≡ rowOf ys level top coef end lower
 unfolding rowOf
 row-alike xs ys e level top coef end lower = λ p. row (λ j. edgeWord (leads-alike xs ys e level top (subℕ lower (coef * j)) p)) end
 
@@ -84,7 +84,7 @@ module _ (t : List ℕ) (count : ℕ) (room : count * 4 ≤ length t) (k : ℕ) 
       ∙ take-set-lt count (records t) k (placed v (recordAt t k)) h
 
   -- and nothing else
-  pub alike-set : (v : ℕ) → Alike (used (set t (k * 4 + 3) v) count) (used t count)
+  pub alike-set : (v : ℕ) → AlikeBare (used (set t (k * 4 + 3) v) count) (used t count)
   alike-set v =
       ap (map bare) (used-set v)
       ∙ map-set-same bare (used t count) k (placed v (recordAt t k)) noRecord (ap bare (sym (used-at t count room k h)))
@@ -125,7 +125,7 @@ pub record Turn (cs ds rs t₀ es₀ : List ℕ) (count : ℕ) (t es : List ℕ)
   pub within : k ≤ count
   pub long : length t ≡ length t₀
   pub wide : length es ≡ length es₀
-  pub alike : Alike (used t count) (used t₀ count)
+  pub alike : AlikeBare (used t count) (used t₀ count)
   pub rest : drop k (used t count) ≡ drop k (used t₀ count)
   pub places : linkedFrom ds 0 (used t₀ count) ≡ take k (used t count) ++ linkedFrom ds first (drop k (used t₀ count))
   pub rows : rowsOf cs ds rs (used t₀ count) (used t₀ count) ≡ take first es ++ rowsOf cs ds rs (used t₀ count) (drop k (used t₀ count))
@@ -172,7 +172,7 @@ module _ (cs ds rs t₀ es₀ : List ℕ) (count : ℕ) (t es : List ℕ) (first
     used-is : used t′ count ≡ set (used t count) k (placed first (recordAt t k))
     used-is = ap (λ (l : List ℕ). used l count) set-is ∙ used-set t count here k h first
 
-    same-heads : Alike (used t′ count) (used t₀ count)
+    same-heads : AlikeBare (used t′ count) (used t₀ count)
     same-heads = ap (λ (l : List ℕ). map bare (used l count)) set-is ∙ alike-set t count here k h first ∙ so .alike
 
     next-rest : drop (suc k) (used t′ count) ≡ drop (suc k) (used t₀ count)

@@ -42,4 +42,4 @@ unread-fields v x n p is en ep = (λ i. record { number = en i; place = ep i; le
 -- The encoding call's promise from the encoder's, which names its own reply.
 pub encodes : (ws t e w t′ e′ w′ : List ℕ) (x : Encoded) (r : EncodedReply) → r ≡ encodedFields x → Promise ws t e w t′ e′ w′ x → Encodes ws t e w t′ e′ w′ r
 encodes ws t e w t′ e′ w′ x r fields p =
-    record { fields = fields ∙ ap encodedFields (p .reply); lists = subst (Promise ws t e w t′ e′ w′) (p .reply) p }
+    record { fields = fields ∙ ap encodedFields (p .reply .same); lists = subst (Promise ws t e w t′ e′ w′) (p .reply .same) p }

@@ -41,8 +41,8 @@ pub struct TestedReply {
     pub place: u64,
 }
 
-// The file comparer's reply: same is 1 and word 0; or same is 0 and word the number of the first word that lacks its four bytes or differs from them, or the
-// count of words where only bytes are left over.
+// The file comparer's reply: same is 1 and word 0; or same is 0 and word the number of the first word whose bytes are not all there or are others, or the
+// count of words where all have theirs and more bytes follow.
 #[repr(C)]
 pub struct ComparedReply {
     pub same: u64,

@@ -22,7 +22,7 @@ use Rattle.refusal.specs.declared.Checked.the-variants as check
 use Rattle.diagram.specs.Table.{Node}
 use Rattle.diagram.specs.Claim.{nodeAt}
 use Rattle.diagram.specs.Flat.{edgeWords, edgeCount, Small}
-use Rattle.diagram.specs.Constraint.{Constraint, Within}
+use Rattle.diagram.specs.Constraint.{Constraint, Within, mostTerms, lastEnd}
 use Rattle.diagram.proofs.Terms.{levels-ascend, levels-length}
 use Rattle.diagram.proofs.Drawn.{table-right}
 use Rattle.encoding.specs.Boolean.{orders}
@@ -36,11 +36,11 @@ use Rattle.encoder_levels.specs.declared.Encoded.{Encoded}
 use Rattle.encoder_levels.specs.declared.Encoded.the-variants.{Accepted, Refused}
 use Rattle.encoder_levels.specs.Reply.{capacity, refuseIf, countsWithin}
 use Rattle.encoder.specs.Encoded.{encoded}
-use Rattle.filler.specs.Filled.{levelsIn, nodesFor, rootFor}
-use Rattle.encoder.proofs.Meant.{plain, edges-length, words-length}
+use Rattle.filler.specs.Filled.{levelsIn, nodesFor, rootFor, clausesFor}
+use Rattle.encoder.proofs.Meant.{plain, edges-length, clauseWords-length}
 use Rattle.encoder_levels.proofs.Answers.{countsOf}
 use Rattle.printout_lines.specs.Text.{child, children, nodeLine, nodeLines, countsLine, refusalLine, nodesWord, edgesWord, wordsWord, refusedWord, atWord, newline, field, tooLong, badLength}
-use Rattle.printout.specs.Shown.{wordsIn, acceptedText, replyText, clausesFor, wordsText, shownIn, shown, Shows, ShowsAll}
+use Rattle.printout.specs.Shown.{mostBytes, mostWords, roomNodes, roomTable, roomEdges, roomClauses, wordsIn, acceptedText, replyText, wordsText, shownIn, shown, Shows, ShowsAll}
 use Rattle.text.proofs.Cuts.{printed-inside, printed-count}
 use Rattle.text.proofs.Decimals.{digits-few}
 use Rattle.printout.proofs.Input as Input
@@ -177,8 +177,8 @@ at-kind n j w h = at-unless n (eqb (kind w) 1) (WrongKind j) h
 
 at-term : (n j w : ℕ) → j ≤ n → At n (termChecked j w)
 at-term n j w h =
-    at-then n (unless (upTo 15 (domainEnd w)) (DomainEnd j)) (unless (leb 1 (coefficient w)) (ZeroCoefficient j))
-    (at-unless n (upTo 15 (domainEnd w)) (DomainEnd j) h) (at-unless n (leb 1 (coefficient w)) (ZeroCoefficient j) h)
+    at-then n (unless (upTo lastEnd (domainEnd w)) (DomainEnd j)) (unless (leb 1 (coefficient w)) (ZeroCoefficient j))
+    (at-unless n (upTo lastEnd (domainEnd w)) (DomainEnd j) h) (at-unless n (leb 1 (coefficient w)) (ZeroCoefficient j) h)
 
 at-checked : (ws : List ℕ) → At (length ws) (checked ws)
 unfolding checked
@@ -190,7 +190,7 @@ at-checked (w ∷ ws) =
     at-then n (unless (eqb (kind w) 0) (WrongKind 0)) (andThen (eachFrom kindChecked 1 ws) (andThen (countChecked (length ws)) (eachFrom termChecked 1 ws)))
     (at-unless n (eqb (kind w) 0) (WrongKind 0) (omega arith))
     (at-then n (eachFrom kindChecked 1 ws) (andThen (countChecked (length ws)) (eachFrom termChecked 1 ws)) kinds
-    (at-then n (countChecked (length ws)) (eachFrom termChecked 1 ws) (at-unless n (upTo 64 (length ws)) (TermCount n) (omega arith)) terms))
+    (at-then n (countChecked (length ws)) (eachFrom termChecked 1 ws) (at-unless n (upTo mostTerms (length ws)) (TermCount n) (omega arith)) terms))
 
 -- ---- The reply
 
@@ -235,10 +235,10 @@ abbrev pub most : Form → ℕ
 most Diagram = 131072
 most Clauses = 196608
 
-accepted-fit : (f : Form) (c : Constraint) → Within c → (m : Counts) → Sized c 66 4096 8192 16384 (Accepted m)
+accepted-fit : (f : Form) (c : Constraint) → Within c → (m : Counts) → Sized c mostWords roomTable roomEdges roomClauses (Accepted m)
     → length (acceptedText f m (nodesFor c) (clausesFor c)) ≤ most f
 accepted-fit Diagram c within m s =
-    let few : length (nodesFor c) ≤ 1024 = omega (arith, s .1) in
+    let few : length (nodesFor c) ≤ roomNodes = omega (arith, s .1) in
     let wide : length (nodesFor c) ≤ mostNodes = omega arith in
     let n = s .0 in
     omega (
@@ -251,41 +251,41 @@ accepted-fit Diagram c within m s =
     )
 accepted-fit Clauses c within m s =
     let wide : length (nodesFor c) ≤ mostNodes = omega (arith, s .1) in
-    omega (arith, written-few (clausesFor c), words-length c within wide, s .3)
+    omega (arith, written-few (clausesFor c), clauseWords-length c within wide, s .3)
 
-words-fit : (f : Form) (ws : List ℕ) → length ws ≤ 66 → length (wordsText f ws 4096 8192 16384) ≤ most f
+words-fit : (f : Form) (ws : List ℕ) → length ws ≤ mostWords → length (wordsText f ws roomTable roomEdges roomClauses) ≤ most f
 unfolding encoded
 words-fit f ws h = go (checked ws) refl (at-checked ws)
   where
-    line : (g : Form) (x : Refusal) → placeOf x ≤ 66 → length (refusalLine x) ≤ most g
+    line : (g : Form) (x : Refusal) → placeOf x ≤ mostWords → length (refusalLine x) ≤ most g
     line Diagram x k = omega (arith, refusal-few x (omega arith))
     line Clauses x k = omega (arith, refusal-few x (omega arith))
 
-    reply : (r : Encoded) → checked ws ≡ check.Passed → Sized (stated ws) 66 4096 8192 16384 r → length (replyText f r (nodesFor (stated ws)) (clausesFor (stated ws))) ≤ most f
+    reply : (r : Encoded) → checked ws ≡ check.Passed → Sized (stated ws) mostWords roomTable roomEdges roomClauses r → length (replyText f r (nodesFor (stated ws)) (clausesFor (stated ws))) ≤ most f
     reply (Refused x) p s = line f x s
     reply (Accepted m) p s = accepted-fit f (stated ws) (checked-within ws p) m s
 
     go : (k : Checked) → checked ws ≡ k → At (length ws) k
-        → length (replyText f (unlessRefused Refused k (countsWithin (stated ws) 4096 8192 16384)) (nodesFor (stated ws)) (clausesFor (stated ws))) ≤ most f
-    go check.Passed e a = reply (countsWithin (stated ws) 4096 8192 16384) e (sized-counted (stated ws) 66 4096 8192 16384)
+        → length (replyText f (unlessRefused Refused k (countsWithin (stated ws) roomTable roomEdges roomClauses)) (nodesFor (stated ws)) (clausesFor (stated ws))) ≤ most f
+    go check.Passed e a = reply (countsWithin (stated ws) roomTable roomEdges roomClauses) e (sized-counted (stated ws) mostWords roomTable roomEdges roomClauses)
     go (check.Refused x) e a = line f x (omega arith)
 
 -- THE BOUND
 pub shown-fits : (f : Form) (bs : List ℕ) → length (shown f bs) ≤ most f
 unfolding shownIn
-shown-fits f bs = go (ltb 264 (length bs)) refl (eqb (length bs % 4) 0)
+shown-fits f bs = go (ltb mostBytes (length bs)) refl (eqb (length bs % 4) 0)
   where
     short : (g : Form) → 11 ≤ most g
     short Diagram = omega arith
     short Clauses = omega arith
 
-    go : (p : Bool) → ltb 264 (length bs) ≡ p → (q : Bool) → length (cond p tooLong (cond q (wordsText f (wordsIn bs) 4096 8192 16384) badLength)) ≤ most f
+    go : (p : Bool) → ltb mostBytes (length bs) ≡ p → (q : Bool) → length (cond p tooLong (cond q (wordsText f (wordsIn bs) roomTable roomEdges roomClauses) badLength)) ≤ most f
     go true e q = omega (arith, short f)
-    go false e true = let l = ltb-false 264 (length bs) e in words-fit f (wordsIn bs) (omega (arith, Input.words-length bs))
+    go false e true = let l = ltb-false mostBytes (length bs) e in words-fit f (wordsIn bs) (omega (arith, Input.wordsIn-length bs))
     go false e false = omega (arith, short f)
 
 -- what is printed into that many bytes with that room is the whole text
-pub printed-whole : (f : Form) (bs t e w first t′ e′ w′ out : List ℕ) (r : ℕ) → length t ≡ 4096 → length e ≡ 8192 → length w ≡ 16384 → length first ≡ most f
+pub printed-whole : (f : Form) (bs t e w first t′ e′ w′ out : List ℕ) (r : ℕ) → length t ≡ roomTable → length e ≡ roomEdges → length w ≡ roomClauses → length first ≡ most f
     → Shows f bs t e w first t′ e′ w′ out r
     → ShowsAll f bs t e w first t′ e′ w′ out r × ((r ≤ length out) × (r ≡ length (take r out)))
 printed-whole f bs t e w first t′ e′ w′ out r a b c n s =

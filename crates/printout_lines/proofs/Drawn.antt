@@ -14,7 +14,7 @@ use Rattle.word.proofs.Kept.{Parts}
 use Rattle.diagram.specs.Table.{Node, noNode}
 use Rattle.diagram.specs.Claim.{nodeAt}
 use Rattle.diagram.specs.Flat.{recordOf, edgeWords, firstPlace}
-use Rattle.diagram.proofs.Written.{record-at, place-inside, edges-in}
+use Rattle.diagram.proofs.Written.{recordsFrom-at, place-inside, edges-in}
 use Rattle.word.proofs.Flat.{recordAt, used-at}
 use Rattle.printout_lines.specs.Text.{nodeLine, nodeLines}
 use Rattle.printout_lines.specs.Lying.{Lying}
@@ -59,7 +59,7 @@ module _ {ns : List Node} {t : List ℕ} {count : ℕ} {es : List ℕ} {total : 
   record-is k h =
       sym (used-at t count (l .room) k h)
       ∙ ap (λ (xs : List Record). getD xs k noRecord) (l .records)
-      ∙ record-at 0 ns k (omega (arith, l .counted))
+      ∙ recordsFrom-at 0 ns k (omega (arith, l .counted))
 
   pub first-is : (k : ℕ) → k < count → getD t (k * 4 + 3) 0 ≡ firstPlace ns k
   first-is k h = omega (arith, ap (λ (x : Record). x .first) (record-is k h))
@@ -102,10 +102,10 @@ module _ {ns : List Node} {t : List ℕ} {count : ℕ} {es : List ℕ} {total : 
       let c = children-are k first past h p q in
       λ i. record { level = r i .level; lab = record { lower = r i .lower; upper = r i .upper }; children = c i }
 
-  pub nodes-turn : (k first past : ℕ) → k < count → first ≡ firstPlace ns k → past ≡ firstPlace ns (k + 1)
+  pub lines-turn : (k first past : ℕ) → k < count → first ≡ firstPlace ns k → past ≡ firstPlace ns (k + 1)
       → Parts (linesLeft ns k) (nodeLine k (heldNode k first past)) (linesLeft ns (k + 1))
   unfolding nodeLines
-  nodes-turn k first past h p q =
+  lines-turn k first past h p q =
       let e = node-is k first past h p q in
       let d = drop-cons ns k noNode (omega (arith, l .counted)) in
       record {
@@ -114,6 +114,6 @@ module _ {ns : List Node} {t : List ℕ} {count : ℕ} {es : List ℕ} {total : 
             ∙ ap₂ (λ (x : Node) (m : ℕ). nodeLine k x ++ nodeLines m (drop m ns)) (sym e) (sym (add-one k));
       }
 
-  pub nodes-none : (k : ℕ) → count ≤ k → linesLeft ns k ≡ []
+  pub lines-none : (k : ℕ) → count ≤ k → linesLeft ns k ≡ []
   unfolding nodeLines
-  nodes-none k h = ap (nodeLines k) (drop-of-length-le ns {i = k} (omega (arith, l .counted)))
+  lines-none k h = ap (nodeLines k) (drop-of-length-le ns {i = k} (omega (arith, l .counted)))

@@ -12,13 +12,13 @@ use Rattle.printout_lines.specs.Text.{child, children}
 -- ---- Children
 
 -- from child j on
-abbrev pub childrenLeft : List ℕ → ℕ → List ℕ
-childrenLeft ws j = children (map edgeIn (drop j ws))
+abbrev pub childTextLeft : List ℕ → ℕ → List ℕ
+childTextLeft ws j = children (map edgeIn (drop j ws))
 
-pub children-turn : (ws : List ℕ) (j : ℕ) → j < length ws → Parts (childrenLeft ws j) (32 ∷ child (edgeIn (getD ws j 0))) (childrenLeft ws (j + 1))
+pub child-text-turn : (ws : List ℕ) (j : ℕ) → j < length ws → Parts (childTextLeft ws j) (32 ∷ child (edgeIn (getD ws j 0))) (childTextLeft ws (j + 1))
 unfolding children
-children-turn ws j h = record { joined = rw (drop-cons ws j 0, add-one) }
+child-text-turn ws j h = record { joined = rw (drop-cons ws j 0, add-one) }
 
-pub children-none : (ws : List ℕ) (j : ℕ) → length ws ≤ j → childrenLeft ws j ≡ []
+pub child-text-none : (ws : List ℕ) (j : ℕ) → length ws ≤ j → childTextLeft ws j ≡ []
 unfolding children
-children-none ws j h = ap (λ (l : List ℕ). children (map edgeIn l)) (drop-of-length-le ws {i = j} h)
+child-text-none ws j h = ap (λ (l : List ℕ). children (map edgeIn l)) (drop-of-length-le ws {i = j} h)

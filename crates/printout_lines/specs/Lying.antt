@@ -1,4 +1,4 @@
--- A DRAWING IN LENT MEMORY, for the contracts of private functions. Assumes nothing.
+-- A DRAWING IN LENT MEMORY, for what our own functions promise each other. Assumes nothing.
 use mathlib.Core.Path.{_≡_}
 use mathlib.Core.List.{List}
 use Prim.Native.Nat.{ℕ, _*_, _≤_, _<_}

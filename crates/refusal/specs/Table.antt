@@ -42,6 +42,15 @@ placeOf (OpenClause at) = at
 placeOf NoRoom = 0
 placeOf (NotDimacs at) = at
 
+-- THE VALUES OF A CHECK'S ANSWER: number and place of the refusal, 0 and 0 where there is none.
+pub record CheckedValues : Type 0 where
+  pub number : ℕ
+  pub place : ℕ
+
+abbrev pub checkedValues : Checked → CheckedValues
+checkedValues Passed = record { number = 0; place = 0 }
+checkedValues (Refused x) = record { number = numberOf x; place = placeOf x }
+
 -- Checks run in order: the next is asked where the one before has passed.
 abbrev pub andThen : Checked → Checked → Checked
 andThen Passed next = next

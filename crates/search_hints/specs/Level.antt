@@ -1,4 +1,4 @@
--- THE WORDS OF A LEVEL in the index of counts. Assumes nothing.
+-- THE WORDS OF A LEVEL among the counts. Assumes nothing.
 use Prim.Native.Nat.{ℕ, _+_}
 
 -- The parts of a level's remainders.

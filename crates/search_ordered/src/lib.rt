@@ -1,4 +1,4 @@
-// Records in order at the beginning of a flat table: the finder among them, where the gap is the remainder's place, and putting a record in.
+// Records in order at the beginning of a flat table: the finder among them, where the gap is the remainder's place.
 use finder::Found;
 use finder::below;
 use finder::holds;

@@ -12,7 +12,7 @@ use Rattle.finder.specs.declared.Found.the-variants.{At, Nothing}
 use Rattle.finder.specs.Find.{holds, gapIn, findFrom, findIn}
 use Rattle.word.proofs.Flat.{used-length}
 use Rattle.finder.proofs.Gap.{gap-append}
-use Rattle.search_runs.specs.Runs.{run}
+use Rattle.search_runs.specs.Runs.{secondRun}
 use Rattle.search_runs.proofs.Views.{both-runs}
 
 -- The reply with its number moved up by m, its gap by a.
@@ -47,11 +47,11 @@ find-joined (x ∷ xs) ys k a b wanted r = go (holds x wanted r) (find-joined xs
     go false h = let z : suc k + length xs ≡ k + suc (length xs) = omega arith in rw z at h
 
 -- THE REPLY from those on the two runs.
-pub find-runs : (t : List ℕ) (m count : ℕ) → m ≤ count → count * 4 ≤ length t → (wanted r : ℕ) (f g : Found) → f ≡ findIn (used t m) wanted r → g ≡ findIn (run t m count) wanted r
+pub find-runs : (t : List ℕ) (m count : ℕ) → m ≤ count → count * 4 ≤ length t → (wanted r : ℕ) (f g : Found) → f ≡ findIn (used t m) wanted r → g ≡ findIn (secondRun t m count) wanted r
     → joined m f g ≡ findIn (used t count) wanted r
 find-runs t m count mid room wanted r f g e h =
     let xs : List Record = used t m in
-    let ys : List Record = run t m count in
+    let ys : List Record = secondRun t m count in
     let n : 0 + length xs ≡ m = omega (arith, used-length t m (omega arith)) in
     rw (e, h) (sym (
     ap (λ (l : List Record). findIn l wanted r) (both-runs t m count mid)

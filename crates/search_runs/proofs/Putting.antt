@@ -10,7 +10,7 @@ use Rattle.word.specs.Record.{Record, records, used}
 use Rattle.finder.specs.Find.{gapIn}
 use Rattle.search_store.specs.Insert.{insertAt}
 use Rattle.word.proofs.Flat.{recordFrom, records-length, records-take, records-drop, records-append}
-use Rattle.search_runs.specs.Runs.{run, PutIn}
+use Rattle.search_runs.specs.Runs.{secondRun, PutIn}
 
 module _ (t : List ℕ) (m count : ℕ) (mid : m ≤ count) (room : count * 4 + 4 ≤ length t) where
   -- The words from the second run on.
@@ -23,7 +23,7 @@ module _ (t : List ℕ) (m count : ℕ) (mid : m ≤ count) (room : count * 4 + 
   tail-is : tail ≡ drop (m * 4) t
   tail-is = take-all (length t - m * 4) (drop (m * 4) t) (omega (arith, length-drop (m * 4) t))
 
-  pub tail-used : used tail (count - m) ≡ run t m count
+  pub tail-used : used tail (count - m) ≡ secondRun t m count
   tail-used = ap (λ (l : List ℕ). used l (count - m)) tail-is ∙ ap (take (count - m)) (records-drop m t)
 
   -- The table with ys from the second run on.
@@ -51,12 +51,12 @@ module _ (t : List ℕ) (m count : ℕ) (mid : m ≤ count) (room : count * 4 + 
       ∙ ap (drop n) tail-is
       ∙ drop-drop n (m * 4) t
 
-  pub put-in : (level r lower upper p : ℕ) (ys : List ℕ) → p ≡ gapIn (used tail (count - m)) level r
+  pub put-second : (level r lower upper p : ℕ) (ys : List ℕ) → p ≡ gapIn (used tail (count - m)) level r
       → used ys (count - m + 1) ≡ insertAt p (recordFrom level lower upper 0) (used tail (count - m))
       → drop ((count - m) * 4 + 4) ys ≡ drop ((count - m) * 4 + 4) tail
       → length ys ≡ length tail
       → PutIn t m count level r lower upper (changed ys)
-  put-in level r lower upper p ys is put past long =
+  put-second level r lower upper p ys is put past long =
       let first : length (take m (records t)) ≡ m = length-take-le m (records t) (omega (arith, records-length t)) in
       let n : count + 1 - m ≡ count - m + 1 = omega arith in
       let behind : count * 4 + 4 ≡ m * 4 + ((count - m) * 4 + 4) = omega arith in

@@ -12,21 +12,21 @@ use borrow.Author.Tests.{lt-ltb}
 use Rattle.word.specs.Record.{Record, records, noRecord, used, putRecord}
 use Rattle.finder.specs.Find.{key}
 use Rattle.word.proofs.Flat.{records-length, used-length, used-at}
-use Rattle.search_runs.specs.Runs.{run, lowerKey, after, merge, Merged}
+use Rattle.search_runs.specs.Runs.{secondRun, lowerKey, after, merge, Merged}
 use Rattle.search_runs.specs.Merging.{lastAbove}
 use Rattle.search_runs.proofs.Views.{merge-zero, merge-length}
 use Rattle.search_store.proofs.Stored.{put-length, put-beyond, put-records}
 
 -- What is left to merge, and behind it what is stored.
-pub record State (xs ys rs₀ : List Record) (m p : ℕ) (rs : List Record) (i j : ℕ) : Type 0 where
+pub record MergeState (xs ys rs₀ : List Record) (m p : ℕ) (rs : List Record) (i j : ℕ) : Type 0 where
   pub whole : merge xs ys i j ++ drop (i + j) rs ≡ merge xs ys m p ++ drop (m + p) rs₀
   pub front : take i rs ≡ take i xs
   pub long : length rs ≡ length rs₀
 
-state-start : (ys rs₀ : List Record) (m p : ℕ) → State (take m rs₀) ys rs₀ m p rs₀ m p
+state-start : (ys rs₀ : List Record) (m p : ℕ) → MergeState (take m rs₀) ys rs₀ m p rs₀ m p
 state-start ys rs₀ m p = record { whole = refl; front = sym (take-take m m rs₀ (omega arith)); long = refl }
 
-state-end : (xs ys rs₀ : List Record) (m p : ℕ) (rs : List Record) (i j : ℕ) → j ≡ 0 → State xs ys rs₀ m p rs i j → rs ≡ merge xs ys m p ++ drop (m + p) rs₀
+state-end : (xs ys rs₀ : List Record) (m p : ℕ) (rs : List Record) (i j : ℕ) → j ≡ 0 → MergeState xs ys rs₀ m p rs i j → rs ≡ merge xs ys m p ++ drop (m + p) rs₀
 state-end xs ys rs₀ m p rs i j e s =
     let z : i + j ≡ i = omega arith in
     let w : merge xs ys i 0 ++ drop i rs ≡ merge xs ys m p ++ drop (m + p) rs₀ = rw (z, e) at (s .whole) in
@@ -58,8 +58,8 @@ front-less : (xs rs : List Record) (i : ℕ) → take (suc i) rs ≡ take (suc i
 front-less xs rs i e = sym (take-take i (suc i) rs (omega arith)) ∙ ap (take i) e ∙ take-take i (suc i) xs (omega arith)
 
 module _ (xs ys rs₀ : List Record) (m p : ℕ) (rs : List Record) where
-  step-main : (i j : ℕ) → 0 < i → 0 < j → i + j ≤ length rs → after (getD rs (i - 1) noRecord) (getD ys (j - 1) noRecord) ≡ true → State xs ys rs₀ m p rs i j
-      → State xs ys rs₀ m p (set rs (i - 1 + j) (getD rs (i - 1) noRecord)) (i - 1) j
+  step-main : (i j : ℕ) → 0 < i → 0 < j → i + j ≤ length rs → after (getD rs (i - 1) noRecord) (getD ys (j - 1) noRecord) ≡ true → MergeState xs ys rs₀ m p rs i j
+      → MergeState xs ys rs₀ m p (set rs (i - 1 + j) (getD rs (i - 1) noRecord)) (i - 1) j
   step-main zero j a b r e s = absurd (not-suc-le-zero a)
   step-main (suc i) zero a b r e s = absurd (not-suc-le-zero b)
   step-main (suc i) (suc j) a b r e s =
@@ -81,8 +81,8 @@ module _ (xs ys rs₀ : List Record) (m p : ℕ) (rs : List Record) where
         long = length-set rs n (getD rs i noRecord) ∙ s .long;
       })
 
-  step-pending : (i j : ℕ) → 0 < j → i + j ≤ length rs → j ≤ length ys → (i ≡ 0) ⊎ (after (getD rs (i - 1) noRecord) (getD ys (j - 1) noRecord) ≡ false) → State xs ys rs₀ m p rs i j
-      → State xs ys rs₀ m p (set rs (i + (j - 1)) (getD ys (j - 1) noRecord)) i (j - 1)
+  step-pending : (i j : ℕ) → 0 < j → i + j ≤ length rs → j ≤ length ys → (i ≡ 0) ⊎ (after (getD rs (i - 1) noRecord) (getD ys (j - 1) noRecord) ≡ false) → MergeState xs ys rs₀ m p rs i j
+      → MergeState xs ys rs₀ m p (set rs (i + (j - 1)) (getD ys (j - 1) noRecord)) i (j - 1)
   step-pending i zero b r l e s = absurd (not-suc-le-zero b)
   step-pending i (suc j) b r l e s =
       let zj : suc j - 1 ≡ j = omega arith in
@@ -129,7 +129,7 @@ module _ (rs : List Record) (y : Record) (k : ℕ) (e : k ≡ lowerKey y) where
 
 abbrev pub Inv : List ℕ → List ℕ → ℕ → ℕ → List ℕ → ℕ → ℕ → Type 0
 Inv t₀ s m count t i j =
-    State (used t₀ m) (used s (count - m)) (records t₀) m (count - m) (records t) i j
+    MergeState (used t₀ m) (used s (count - m)) (records t₀) m (count - m) (records t) i j
     × (i ≤ m)
     × (j ≤ count - m)
     × (length t ≡ length t₀)
@@ -139,7 +139,7 @@ module _ (t₀ s : List ℕ) (m count : ℕ) (mid : m ≤ count) (room : count *
   pub inv-start : Inv t₀ s m count t₀ m (count - m)
   inv-start = (state-start (used s (count - m)) (records t₀) m (count - m), omega arith, omega arith, refl, refl)
 
-  pub inv-end : used s (count - m) ≡ run t₀ m count → (t : List ℕ) (i j : ℕ) → j ≡ 0 → Inv t₀ s m count t i j → Merged t₀ m count t
+  pub inv-end : used s (count - m) ≡ secondRun t₀ m count → (t : List ℕ) (i j : ℕ) → j ≡ 0 → Inv t₀ s m count t i j → Merged t₀ m count t
   inv-end same t i j e inv =
       let p : ℕ = count - m in
       let n : m + p ≡ count = omega arith in
@@ -161,7 +161,7 @@ module _ (t₀ s : List ℕ) (m count : ℕ) (mid : m ≤ count) (room : count *
 
     -- The turn with record x stored at number i + j, the last that is free.
     stored-inv : (i′ j′ : ℕ) (x : Record) → i′ ≤ i → j′ ≤ j → suc (i′ + j′) ≡ i + j
-        → State (used t₀ m) (used s (count - m)) (records t₀) m (count - m) (set (records t) (i′ + j′) x) i′ j′
+        → MergeState (used t₀ m) (used s (count - m)) (records t₀) m (count - m) (set (records t) (i′ + j′) x) i′ j′
         → t′ ≡ putRecord t (i′ + j′) x → Inv t₀ s m count t′ i′ j′
     stored-inv i′ j′ x a b n st w =
         let free : (i′ + j′) * 4 + 4 ≤ length t = omega (arith, inv .1, inv .2, inv .3) in

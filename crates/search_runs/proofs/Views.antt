@@ -13,7 +13,7 @@ use Rattle.word.specs.Record.{Record, records, noRecord, used, Among}
 use Rattle.search_ordered.specs.Order.{Before, Proper, Sorted}
 use Rattle.search_store.specs.Copy.{copied}
 use Rattle.word.proofs.Flat.{records-length, records-take, records-drop, used-length}
-use Rattle.search_runs.specs.Runs.{run, runWords, lowerKey, after, merge, bothRuns, Apart, Runs, Merged, Settled}
+use Rattle.search_runs.specs.Runs.{secondRun, runWords, lowerKey, after, merge, bothRuns, Apart, Runs, Merged, Settled}
 use Rattle.search_runs.proofs.Members.{among-left, among-right, among-cases, snoc-from, snoc-to, last-from, last-to, proper-in, sorted-snoc, sorted-unsnoc}
 
 pub merge-zero : (xs ys : List Record) (i : ℕ) → merge xs ys i 0 ≡ take i xs
@@ -119,25 +119,25 @@ merge-sorted xs ys (suc i) (suc j) a b s r apart =
 -- ---- The runs of a table
 
 -- Both runs, one behind the other.
-pub both-runs : (t : List ℕ) (m count : ℕ) → m ≤ count → used t count ≡ used t m ++ run t m count
+pub both-runs : (t : List ℕ) (m count : ℕ) → m ≤ count → used t count ≡ used t m ++ secondRun t m count
 both-runs t m count h =
     let e : m + (count - m) ≡ count = omega arith in
     ap (λ (n : ℕ). take n (records t)) (sym e) ∙ take-add m (count - m) (records t)
 
-pub run-length : (t : List ℕ) (m count : ℕ) → m ≤ count → count * 4 ≤ length t → length (run t m count) ≡ count - m
+pub run-length : (t : List ℕ) (m count : ℕ) → m ≤ count → count * 4 ≤ length t → length (secondRun t m count) ≡ count - m
 run-length t m count h room = length-take-le (count - m) (drop m (records t)) (omega (arith, records-length t, length-drop m (records t)))
 
 -- The words of the second run, where they lie and where they are copied to.
 module _ (t : List ℕ) (m count : ℕ) (mid : m ≤ count) where
-  run-records : records (runWords t m count) ≡ run t m count
+  run-records : records (runWords t m count) ≡ secondRun t m count
   run-records =
       let n : count * 4 - m * 4 ≡ (count - m) * 4 = omega arith in
       rw n (records-take (count - m) (drop (m * 4) t) ∙ ap (take (count - m)) (records-drop m t))
 
-  pub run-words : used (runWords t m count) (count - m) ≡ run t m count
+  pub run-words : used (runWords t m count) (count - m) ≡ secondRun t m count
   run-words = ap (take (count - m)) run-records ∙ take-take (count - m) (count - m) (drop m (records t)) (omega arith)
 
-  pub run-copied : count * 4 ≤ length t → (s w : List ℕ) → s ≡ copied (runWords t m count) w → used s (count - m) ≡ run t m count
+  pub run-copied : count * 4 ≤ length t → (s w : List ℕ) → s ≡ copied (runWords t m count) w → used s (count - m) ≡ secondRun t m count
   run-copied room s w e =
       let ws : List ℕ = runWords t m count in
       let n : length ws ≡ (count - m) * 4 = length-take-le (count * 4 - m * 4) (drop (m * 4) t) (omega (arith, length-drop (m * 4) t)) ∙ omega arith in
@@ -147,59 +147,59 @@ module _ (t : List ℕ) (m count w : ℕ) (rs : Runs t m count w) where
   main-length : length (used t m) ≡ m
   main-length = used-length t m (omega (arith, rs .room, rs .mid))
 
-  pending-length : length (run t m count) ≡ count - m
+  pending-length : length (secondRun t m count) ≡ count - m
   pending-length = run-length t m count (rs .mid) (rs .room)
 
   main-all : take m (used t m) ≡ used t m
   main-all = take-all m (used t m) (omega (arith, main-length))
 
-  pending-all : take (count - m) (run t m count) ≡ run t m count
-  pending-all = take-all (count - m) (run t m count) (omega (arith, pending-length))
+  pending-all : take (count - m) (secondRun t m count) ≡ secondRun t m count
+  pending-all = take-all (count - m) (secondRun t m count) (omega (arith, pending-length))
 
   pub both-length : length (bothRuns t m count) ≡ count
   both-length =
-      let e = merge-length (used t m) (run t m count) m (count - m) (omega (arith, main-length)) (omega (arith, pending-length)) in
+      let e = merge-length (used t m) (secondRun t m count) m (count - m) (omega (arith, main-length)) (omega (arith, pending-length)) in
       omega (arith, rs .mid)
 
-  pub both-sorted : Apart (used t m) (run t m count) → Sorted (bothRuns t m count)
-  both-sorted apart = merge-sorted (used t m) (run t m count) m (count - m) (omega (arith, main-length)) (omega (arith, pending-length))
+  pub both-sorted : Apart (used t m) (secondRun t m count) → Sorted (bothRuns t m count)
+  both-sorted apart = merge-sorted (used t m) (secondRun t m count) m (count - m) (omega (arith, main-length)) (omega (arith, pending-length))
       (rw main-all (rs .main)) (rw pending-all (rs .pending)) (λ x y a b. apart x y (subst (Among x) main-all a) (subst (Among y) pending-all b))
 
-  pub both-from : (z : Record) → Among z (bothRuns t m count) → Among z (used t m) ⊎ Among z (run t m count)
+  pub both-from : (z : Record) → Among z (bothRuns t m count) → Among z (used t m) ⊎ Among z (secondRun t m count)
   both-from z h = ⊎-elim (λ a. inl (subst (Among z) main-all a)) (λ b. inr (subst (Among z) pending-all b))
-      (merge-from (used t m) (run t m count) m (count - m) (omega (arith, main-length)) (omega (arith, pending-length)) z h)
+      (merge-from (used t m) (secondRun t m count) m (count - m) (omega (arith, main-length)) (omega (arith, pending-length)) z h)
 
-  both-to : (z : Record) → Among z (used t m) ⊎ Among z (run t m count) → Among z (bothRuns t m count)
-  both-to z h = merge-to (used t m) (run t m count) m (count - m) (omega (arith, main-length)) (omega (arith, pending-length)) z
+  both-to : (z : Record) → Among z (used t m) ⊎ Among z (secondRun t m count) → Among z (bothRuns t m count)
+  both-to z h = merge-to (used t m) (secondRun t m count) m (count - m) (omega (arith, main-length)) (omega (arith, pending-length)) z
       (⊎-elim (λ a. inl (subst (Among z) (sym main-all) a)) (λ b. inr (subst (Among z) (sym pending-all) b)) h)
 
   -- THE VIEW has the records that lie in the table.
   pub both-used : (z : Record) → Among z (used t count) → Among z (bothRuns t m count)
-  both-used z h = both-to z (among-cases (used t m) (run t m count) z (subst (Among z) (both-runs t m count (rs .mid)) h))
+  both-used z h = both-to z (among-cases (used t m) (secondRun t m count) z (subst (Among z) (both-runs t m count (rs .mid)) h))
 
   pub used-both : (z : Record) → Among z (bothRuns t m count) → Among z (used t count)
   used-both z h = subst (Among z) (sym (both-runs t m count (rs .mid)))
-      (⊎-elim (among-left (used t m) (run t m count) z) (among-right (used t m) (run t m count) z) (both-from z h))
+      (⊎-elim (among-left (used t m) (secondRun t m count) z) (among-right (used t m) (secondRun t m count) z) (both-from z h))
 
 -- No record is in the second run just after merging.
-run-none : (t : List ℕ) (n : ℕ) → run t n n ≡ []
+run-none : (t : List ℕ) (n : ℕ) → secondRun t n n ≡ []
 run-none t n = let z : n - n ≡ 0 = omega arith in ap (λ (k : ℕ). take k (drop n (records t))) z
 
 both-whole : (t : List ℕ) (n : ℕ) → bothRuns t n n ≡ used t n
 both-whole t n =
     let z : n - n ≡ 0 = omega arith in
-    ap (merge (used t n) (run t n n) n) z ∙ merge-zero (used t n) (run t n n) n ∙ take-take n n (records t) (omega arith)
+    ap (merge (used t n) (secondRun t n n) n) z ∙ merge-zero (used t n) (secondRun t n n) n ∙ take-take n n (records t) (omega arith)
 
 sorted-none : Sorted []
 unfolding Sorted
 sorted-none = tt
 
 -- SETTLING leaves two runs in order and apart, with the same records.
-pub settled-both : (t : List ℕ) (m count w : ℕ) (t′ : List ℕ) (k : ℕ) → Runs t m count w → Apart (used t m) (run t m count) → Settled t m count w t′ k
-    → Runs t′ k count w × Apart (used t′ k) (run t′ k count) × (bothRuns t′ k count ≡ bothRuns t m count)
+pub settled-both : (t : List ℕ) (m count w : ℕ) (t′ : List ℕ) (k : ℕ) → Runs t m count w → Apart (used t m) (secondRun t m count) → Settled t m count w t′ k
+    → Runs t′ k count w × Apart (used t′ k) (secondRun t′ k count) × (bothRuns t′ k count ≡ bothRuns t m count)
 settled-both t m count w t′ k rs apart st = go (st .way)
   where
-    go : ((k ≡ m) × (t′ ≡ t)) ⊎ ((k ≡ count) × Merged t m count t′) → Runs t′ k count w × Apart (used t′ k) (run t′ k count) × (bothRuns t′ k count ≡ bothRuns t m count)
+    go : ((k ≡ m) × (t′ ≡ t)) ⊎ ((k ≡ count) × Merged t m count t′) → Runs t′ k count w × Apart (used t′ k) (secondRun t′ k count) × (bothRuns t′ k count ≡ bothRuns t m count)
     go (inl (e, f)) = rw (e, f) (rs, apart, refl)
     go (inr (e, g)) = rw e (
       record {

@@ -17,8 +17,8 @@ abbrev pub longest : ℕ
 longest = 512
 
 -- The second run: the records from m up to count.
-abbrev pub run : List ℕ → ℕ → ℕ → List Record
-run t m count = take (count - m) (drop m (records t))
+abbrev pub secondRun : List ℕ → ℕ → ℕ → List Record
+secondRun t m count = take (count - m) (drop m (records t))
 
 -- The words of the second run.
 abbrev pub runWords : List ℕ → ℕ → ℕ → List ℕ
@@ -41,7 +41,7 @@ merge xs ys (suc i) (suc j) =
 
 -- The records of both runs as one list.
 abbrev pub bothRuns : List ℕ → ℕ → ℕ → List Record
-bothRuns t m count = merge (used t m) (run t m count) m (count - m)
+bothRuns t m count = merge (used t m) (secondRun t m count) m (count - m)
 
 -- Every record of the one lies before or after every record of the other.
 abbrev pub Apart : List Record → List Record → Type 0
@@ -53,7 +53,7 @@ pub record Runs (t : List ℕ) (m count w : ℕ) : Type 0 where
   pub mid : m ≤ count
   pub few : count * 4 ≤ m * 4 + w
   pub main : Sorted (used t m)
-  pub pending : Sorted (run t m count)
+  pub pending : Sorted (secondRun t m count)
 
 -- The first count records are both runs as one list; no word behind them has changed.
 pub record Merged (t : List ℕ) (m count : ℕ) (t′ : List ℕ) : Type 0 where
@@ -71,6 +71,6 @@ pub record Settled (t : List ℕ) (m count w : ℕ) (t′ : List ℕ) (k : ℕ) 
 -- A record was put into the second run, at the gap of the remainder r; no word before the run or behind the record's place has changed.
 pub record PutIn (t : List ℕ) (m count level r lower upper : ℕ) (t′ : List ℕ) : Type 0 where
   pub main : used t′ m ≡ used t m
-  pub pending : run t′ m (count + 1) ≡ insertAt (gapIn (run t m count) level r) (record { level = level; lower = lower; upper = upper; first = 0 }) (run t m count)
+  pub pending : secondRun t′ m (count + 1) ≡ insertAt (gapIn (secondRun t m count) level r) (record { level = level; lower = lower; upper = upper; first = 0 }) (secondRun t m count)
   pub beyond : drop (count * 4 + 4) t′ ≡ drop (count * 4 + 4) t
   pub long : length t′ ≡ length t

@@ -15,7 +15,7 @@ ghost use Rattle.word.specs.Record.{used};
 ghost use Rattle.search_ordered.specs.Order.{Sorted};
 ghost use Rattle.finder.specs.Find.{Missing, findIn};
 ghost use Rattle.search_store.specs.Copy.{copied};
-ghost use Rattle.search_runs.specs.Runs.{longest, run, runWords, Merged, Settled, PutIn};
+ghost use Rattle.search_runs.specs.Runs.{longest, secondRun, runWords, Merged, Settled, PutIn};
 
 // Sets the lent words for an empty table of levels whose greatest remainders are given.
 pub fn prepare(work: &mut [u32], rests: &[u32])
@@ -35,7 +35,7 @@ pub fn find(
     level: u32,
     r: Remainder,
 ) -> Found
-    requires { ⌜ (main ≤ count) × (count * 4 ≤ length (now table)) × Sorted (used (now table) main) × Sorted (run (now table) main count) ⌝ }
+    requires { ⌜ (main ≤ count) × (count * 4 ≤ length (now table)) × Sorted (used (now table) main) × Sorted (secondRun (now table) main count) ⌝ }
     ensures { λ f. ⌜ f ≡ findIn (used (now (table .entry)) count) level (r .0) ⌝ }
 {
     let g = search_hints::guess(table, work, main, level, r);
@@ -109,7 +109,7 @@ pub fn put(
     lower: u32,
     upper: u32,
 )
-    requires { ⌜ (main ≤ count) × (count * 4 + 4 ≤ length (now table)) × Sorted (run (now table) main count) × Missing (run (now table) main count) level (r .0) ⌝ }
+    requires { ⌜ (main ≤ count) × (count * 4 + 4 ≤ length (now table)) × Sorted (secondRun (now table) main count) × Missing (secondRun (now table) main count) level (r .0) ⌝ }
     ensures { λ _. ⌜ PutIn (now (table .entry)) main count level (r .0) lower upper (now (table .exit)) ⌝ }
 {
     let b = main * RECORD;

@@ -8,7 +8,7 @@ ghost use mathlib.Core.Path.{_≡_};
 ghost use Prim.Native.Nat.{_+_, _-_, _*_, _≤_};
 ghost use lib.ListN.{length};
 ghost use Rattle.word.specs.Record.{records, used};
-ghost use Rattle.search_runs.specs.Runs.{run, Merged};
+ghost use Rattle.search_runs.specs.Runs.{secondRun, Merged};
 ghost use Rattle.search_runs.specs.Merging.{lastAbove};
 
 // Whether there is a last one of the first i records, and its key is above k.
@@ -25,7 +25,7 @@ fn last_above(table: &[u32], i: usize, k: u64) -> bool
 
 // Merges the two runs, where s has the records of the second.
 pub fn merge_back(table: &mut [u32], s: &[u32], main: usize, count: usize)
-    requires { ⌜ (main ≤ count) × (count * 4 ≤ length (now table)) × (count * 4 ≤ main * 4 + length (now s)) × (used (now s) (count - main) ≡ run (now table) main count) ⌝ }
+    requires { ⌜ (main ≤ count) × (count * 4 ≤ length (now table)) × (count * 4 ≤ main * 4 + length (now s)) × (used (now s) (count - main) ≡ secondRun (now table) main count) ⌝ }
     ensures { λ _. ⌜ Merged (now (table .entry)) main count (now (table .exit)) ⌝ }
 {
     let mut i = main;

@@ -3,16 +3,16 @@
 -- definitions, from the meaning alone: by listing all choices and which of them each right-hand side allows. Assumes nothing.
 use mathlib.Core.Path.{_≡_, refl}
 use mathlib.Core.List.{List, [], _∷_, map}
-use Prim.Native.Nat.{ℕ}
-use lib.ListN.{length, replicate}
-use Rattle.word.specs.Record.{flat}
+use Prim.Native.Nat.{ℕ, _*_}
+use lib.ListN.{replicate}
+use Rattle.word.specs.Record.{recordWords, flat}
 use Rattle.diagram.specs.Label.{overlap, labelOf}
 use Rattle.diagram.specs.Table.{insert, place, addKey, addRow, keysBelow, rootKeys, edgeTo, row, nodeOfKey, nodesFrom, table, root}
 use Rattle.diagram.specs.Flat.{recordsFrom, tableWords, edgeWords, edgeCount}
 use Rattle.diagram.specs.Constraint.{Constraint}
-use Rattle.encoding.specs.Pattern.{clauseWords, orderWords, nodeWords}
+use Rattle.encoding.specs.Pattern.{orderWords, nodeWords}
 use Rattle.constraint.specs.Reading.{eachFrom, checked, stated}
-use Rattle.filler.specs.Filled.{levelsIn, nodesFor, rootFor}
+use Rattle.filler.specs.Filled.{nodesFor, clausesFor}
 use Rattle.encoder_levels.specs.declared.Encoded.{Encoded}
 use Rattle.encoder_levels.specs.Reply.{EncodedValues, encodedValues, countsWithin}
 use Rattle.encoder.specs.Encoded.{encoded, encodedLeft}
@@ -32,20 +32,20 @@ exercise ws r t e w = record { words = ws; reply = r; table = t; edges = e; clau
 abbrev pub values : ℕ → ℕ → ℕ → ℕ → ℕ → EncodedValues
 values number place nodes edges words = record { number = number; place = place; nodes = nodes; edges = edges; words = words }
 
--- A lent list just as long as an exercise's, full of other words before the call.
-abbrev pub lent : List ℕ → List ℕ
-lent xs = replicate (length xs) 7
+-- A lent list of n words, which are other ones before the call.
+abbrev pub lent : ℕ → List ℕ
+lent n = replicate n 7
 
--- What a call with such lists gives.
+-- What a call gives that is lent just the room that the row's counts take.
 abbrev pub answered : Exercise → Encoded → Constraint → Exercise
 answered x r c =
     exercise (x .words) (encodedValues r)
-    (encodedLeft r (lent (x .table)) (tableWords (nodesFor c)))
-    (encodedLeft r (lent (x .edges)) (edgeWords (nodesFor c)))
-    (encodedLeft r (lent (x .clauses)) (clauseWords (levelsIn c) (rootFor c) (nodesFor c)))
+    (encodedLeft r (lent (x .reply .nodes * recordWords)) (tableWords (nodesFor c)))
+    (encodedLeft r (lent (x .reply .edges)) (edgeWords (nodesFor c)))
+    (encodedLeft r (lent (x .reply .words)) (clausesFor c))
 
 abbrev pub given : Exercise → Exercise
-given x = answered x (encoded (x .words) (length (x .table)) (length (x .edges)) (length (x .clauses))) (stated (x .words))
+given x = answered x (encoded (x .words) (x .reply .nodes * recordWords) (x .reply .edges) (x .reply .words)) (stated (x .words))
 
 -- P's clause list, and R's three lists, which are S's too.
 abbrev pub clausesP : List ℕ

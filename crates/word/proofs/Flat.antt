@@ -26,7 +26,7 @@ records-length (a ∷ b ∷ c ∷ []) = refl
 records-length (a ∷ b ∷ c ∷ d ∷ t) = let h = records-length t in omega arith
 
 -- Past the first record, an index is four less.
-shifted : (a b c d : ℕ) (t : List ℕ) (m n : ℕ) → m ≡ suc (suc (suc (suc n))) → getD (a ∷ b ∷ c ∷ d ∷ t) m 0 ≡ getD t n 0
+pub shifted : (a b c d : ℕ) (t : List ℕ) (m n : ℕ) → m ≡ suc (suc (suc (suc n))) → getD (a ∷ b ∷ c ∷ d ∷ t) m 0 ≡ getD t n 0
 shifted a b c d t m n h = ap (λ (i : ℕ). getD (a ∷ b ∷ c ∷ d ∷ t) i 0) h
 
 -- RECORD k of the table is words 4k to 4k + 3.

@@ -7,7 +7,7 @@ use Prim.Native.Nat.{suc, _+_}
 use native.Mathlib.Omega.{arith}
 use lib.ListN.{length-set}
 use Rattle.word.specs.Word.{endWord}
-use Rattle.clause_buffer.proofs.Writing.{stored}
+use Rattle.clause_buffer.proofs.Writing.{stored-words}
 use Rattle.clause_buffer.proofs.put_one.Statement.{statement}
 use Rattle.clause_buffer.proofs.put_one.Tie as tie
 
@@ -39,7 +39,7 @@ returns : tie.Need-returns
 returns c =
     let args = c .before .before .args in
     let p : args .at + 1 ≡ suc (args .at) = omega arith in
-    stored (args .a ∷ endWord 1 ∷ []) (args .at) (args .at + 2) (args .out .now) _ (c .before .before .pre)
+    stored-words (args .a ∷ endWord 1 ∷ []) (args .at) (args .at + 2) (args .out .now) _ (c .before .before .pre)
     (omega arith) (rw (p, c .end-word .ensures))
 
 pub put-one-spec : {M : Type 1} → statement M

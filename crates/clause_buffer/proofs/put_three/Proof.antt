@@ -7,7 +7,7 @@ use Prim.Native.Nat.{suc, _+_}
 use native.Mathlib.Omega.{arith}
 use lib.ListN.{length-set}
 use Rattle.word.specs.Word.{endWord}
-use Rattle.clause_buffer.proofs.Writing.{stored}
+use Rattle.clause_buffer.proofs.Writing.{stored-words}
 use Rattle.clause_buffer.proofs.put_three.Statement.{statement}
 use Rattle.clause_buffer.proofs.put_three.Tie as tie
 
@@ -59,7 +59,7 @@ returns c =
     let p : args .at + 1 ≡ suc (args .at) = omega arith in
     let q : args .at + 2 ≡ suc (suc (args .at)) = omega arith in
     let s : args .at + 3 ≡ suc (suc (suc (args .at))) = omega arith in
-    stored (args .a ∷ args .b ∷ args .c ∷ endWord 3 ∷ []) (args .at) (args .at + 4) (args .out .now) _ (c .before .before .pre)
+    stored-words (args .a ∷ args .b ∷ args .c ∷ endWord 3 ∷ []) (args .at) (args .at + 4) (args .out .now) _ (c .before .before .pre)
     (omega arith) (rw (p, q, s, c .end-word .ensures))
 
 pub put-three-spec : {M : Type 1} → statement M

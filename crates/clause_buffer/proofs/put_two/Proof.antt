@@ -7,7 +7,7 @@ use Prim.Native.Nat.{suc, _+_}
 use native.Mathlib.Omega.{arith}
 use lib.ListN.{length-set}
 use Rattle.word.specs.Word.{endWord}
-use Rattle.clause_buffer.proofs.Writing.{stored}
+use Rattle.clause_buffer.proofs.Writing.{stored-words}
 use Rattle.clause_buffer.proofs.put_two.Statement.{statement}
 use Rattle.clause_buffer.proofs.put_two.Tie as tie
 
@@ -49,7 +49,7 @@ returns c =
     let args = c .before .before .args in
     let p : args .at + 1 ≡ suc (args .at) = omega arith in
     let q : args .at + 2 ≡ suc (suc (args .at)) = omega arith in
-    stored (args .a ∷ args .b ∷ endWord 2 ∷ []) (args .at) (args .at + 3) (args .out .now) _ (c .before .before .pre)
+    stored-words (args .a ∷ args .b ∷ endWord 2 ∷ []) (args .at) (args .at + 3) (args .out .now) _ (c .before .before .pre)
     (omega arith) (rw (p, q, c .end-word .ensures))
 
 pub put-two-spec : {M : Type 1} → statement M

@@ -5,14 +5,14 @@ use Prim.Native.Nat.{suc, _-_}
 use native.Mathlib.Omega.{arith}
 use Rattle.clause.specs.Meaning.{wordsOf}
 use Rattle.encoding.specs.Pattern.{orderOf}
-use Rattle.clause_buffer.proofs.Writing.{Left, left-all, left-room, left-less, left-none}
+use Rattle.clause_buffer.proofs.Writing.{WordsLeft, words-left-all, words-left-room, words-left-less, words-left-none}
 use Rattle.clause_buffer.proofs.Turns.{orderLeft, order-all, order-turn, order-none}
 use Rattle.clause_buffer.proofs.write_level.Statement.{statement}
 use Rattle.clause_buffer.proofs.write_level.Tie as tie
 
 abbrev Inv-values : tie.InvT-values
 Inv-values end earlier out₀ start at₀ j₀ out at j =
-    Left (wordsOf (orderOf (suc earlier) (end - 1))) start out₀ (orderLeft earlier end j) at out
+    WordsLeft (wordsOf (orderOf (suc earlier) (end - 1))) start out₀ (orderLeft earlier end j) at out
 
 abbrev μ-values : tie.MeasureT-values
 μ-values end earlier out₀ start at₀ j₀ out at j = end - j
@@ -20,7 +20,7 @@ abbrev μ-values : tie.MeasureT-values
 values-holds : tie.Need-values-holds Inv-values μ-values
 values-holds c =
     let args = c .before .args in
-    left-all _ _ (args .start) (args .out .now) (order-all (args .earlier) (args .end)) (c .before .pre .1)
+    words-left-all _ _ (args .start) (args .out .now) (order-all (args .earlier) (args .end)) (c .before .pre .1)
 
 add-b : tie.Need-add-b Inv-values μ-values
 add-b c = search needs
@@ -39,7 +39,7 @@ put-two-requires c κs =
     let turn = c .before .before .before .before in
     let args = turn .before .before .args in
     let e = order-turn (args .earlier) (args .end) (turn .values .j) (omega arith) (c .before .literal .ensures) (c .literal2 .ensures) in
-    left-room e (turn .values .inv)
+    words-left-room e (turn .values .inv)
 
 add-j : tie.Need-add-j Inv-values μ-values
 add-j c = search needs
@@ -52,7 +52,7 @@ values-again c =
     let turn = c .before .before .before .before .before .before .before in
     let args = turn .before .before .args in
     let e = order-turn (args .earlier) (args .end) (turn .values .j) (omega arith) (c .before .before .before .before .literal .ensures) (c .before .before .before .literal2 .ensures) in
-    left-less e (turn .values .inv) (c .before .before .put-two .ensures)
+    words-left-less e (turn .values .inv) (c .before .before .put-two .ensures)
 
 same-length : tie.Need-same-length Inv-values μ-values
 same-length c = c .before .values .inv .kept
@@ -61,7 +61,7 @@ returns : tie.Need-returns Inv-values μ-values
 returns c =
     let turn = c .before in
     let args = turn .before .before .args in
-    left-none (order-none (args .earlier) (args .end) (turn .values .j) (omega arith)) (turn .values .inv)
+    words-left-none (order-none (args .earlier) (args .end) (turn .values .j) (omega arith)) (turn .values .inv)
 
 pub write-level-spec : {M : Type 1} → statement M
 write-level-spec =

@@ -10,14 +10,14 @@ use Rattle.clause.specs.Meaning.{wordsOf}
 use Rattle.encoding.specs.Pattern.{ordersOf}
 use Rattle.encoding.specs.Boolean.{orders}
 use Rattle.clause_buffer.specs.Ended.{ended}
-use Rattle.clause_buffer.proofs.Writing.{Left, left-all, left-room, left-less, left-none}
+use Rattle.clause_buffer.proofs.Writing.{WordsLeft, words-left-all, words-left-room, words-left-less, words-left-none}
 use Rattle.clause_buffer.proofs.Turns.{levelsLeft, levels-turn, levels-none, orders-turn}
 use Rattle.clause_buffer.proofs.write_levels.Statement.{statement}
 use Rattle.clause_buffer.proofs.write_levels.Tie as tie
 
 abbrev Inv-levels : tie.InvT-levels
 Inv-levels ends out₀ at₀ earlier₀ i₀ out at earlier i =
-    (earlier + orders (ended (drop i ends)) ≤ lastBoolean) × Left (wordsOf (ordersOf 0 (ended ends))) 0 out₀ (levelsLeft ends earlier i) at out
+    (earlier + orders (ended (drop i ends)) ≤ lastBoolean) × WordsLeft (wordsOf (ordersOf 0 (ended ends))) 0 out₀ (levelsLeft ends earlier i) at out
 
 abbrev μ-levels : tie.MeasureT-levels
 μ-levels ends out₀ at₀ earlier₀ i₀ out at earlier i = length ends - i
@@ -25,7 +25,7 @@ abbrev μ-levels : tie.MeasureT-levels
 levels-holds : tie.Need-levels-holds Inv-levels μ-levels
 levels-holds c =
     let args = c .before .before .args in
-    (omega (arith, c .before .before .pre .0), left-all _ _ 0 (args .out .now) refl (c .before .before .pre .1))
+    (omega (arith, c .before .before .pre .0), words-left-all _ _ 0 (args .out .now) refl (c .before .before .pre .1))
 
 mul-end : tie.Need-mul-end Inv-levels μ-levels
 mul-end c = search needs
@@ -39,7 +39,7 @@ write-level-requires c κs =
     let ends = turn .before .before .before .args .ends .now in
     let i = turn .levels .i in
     let e = levels-turn ends (turn .levels .earlier) i (omega arith) in
-    (omega (arith, orders-turn ends i (omega arith)), left-room e (turn .levels .inv .1))
+    (omega (arith, orders-turn ends i (omega arith)), words-left-room e (turn .levels .inv .1))
 
 add-earlier : tie.Need-add-earlier Inv-levels μ-levels
 add-earlier c =
@@ -59,7 +59,7 @@ levels-again c =
     let ends = turn .before .before .before .args .ends .now in
     let i = turn .levels .i in
     let e = levels-turn ends (turn .levels .earlier) i (omega arith) in
-    (omega (arith, orders-turn ends i (omega arith)), left-less e (turn .levels .inv .1) (c .before .before .write-level .ensures))
+    (omega (arith, orders-turn ends i (omega arith)), words-left-less e (turn .levels .inv .1) (c .before .before .write-level .ensures))
 
 same-length : tie.Need-same-length Inv-levels μ-levels
 same-length c = c .before .levels .inv .1 .kept
@@ -67,7 +67,7 @@ same-length c = c .before .levels .inv .1 .kept
 returns : tie.Need-returns Inv-levels μ-levels
 returns c =
     let turn = c .before in
-    left-none (levels-none (turn .before .before .before .args .ends .now) (turn .levels .earlier) (turn .levels .i) (omega arith)) (turn .levels .inv .1)
+    words-left-none (levels-none (turn .before .before .before .args .ends .now) (turn .levels .earlier) (turn .levels .i) (omega arith)) (turn .levels .inv .1)
 
 pub write-levels-spec : {M : Type 1} → statement M
 write-levels-spec =

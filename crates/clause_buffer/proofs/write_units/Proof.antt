@@ -5,7 +5,7 @@ use mathlib.Core.Path.{ap, _∙_}
 use mathlib.Core.Bool.{true, false}
 use Rattle.word.specs.Word.{literalWord}
 use Rattle.word.specs.Edge.{edgeOf}
-use Rattle.clause_buffer.proofs.Writing.{wrote-as, wrote-then}
+use Rattle.clause_buffer.proofs.Writing.{wrote-words-as, wrote-words-then}
 use Rattle.clause_buffer.proofs.Turns.{units-are}
 use Rattle.clause_buffer.proofs.write_units.Statement.{statement}
 use Rattle.clause_buffer.proofs.write_units.Tie as tie
@@ -49,8 +49,8 @@ returns c =
     let first = t .literal .ensures ∙ ap (literalWord true) (t .before .child-variable .ensures) in
     let second = f .literal2 .ensures ∙ ap (literalWord false) (f .before .child-variable2 .ensures) in
     let third = r .literal3 .ensures ∙ ap (literalWord true) (r .before .child-variable3 .ensures) in
-    wrote-as (units-are (args .orders) (edgeOf (args .root)) first second third)
-    (wrote-then (c .before .before .before .before .before .before .before .before .before .before .put-one .ensures) (wrote-then (c .before .before .before .before .before .before .put-one2 .ensures) (c .before .before .put-one3 .ensures)))
+    wrote-words-as (units-are (args .orders) (edgeOf (args .root)) first second third)
+    (wrote-words-then (c .before .before .before .before .before .before .before .before .before .before .put-one .ensures) (wrote-words-then (c .before .before .before .before .before .before .put-one2 .ensures) (c .before .before .put-one3 .ensures)))
 
 pub write-units-spec : {M : Type 1} → statement M
 write-units-spec =

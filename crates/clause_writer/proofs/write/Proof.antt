@@ -3,8 +3,8 @@
 use borrow.Author.Needs.{needs}
 use mathlib.Core.Path.{sym}
 use native.Mathlib.Omega.{arith}
-use Rattle.clause_buffer.proofs.Writing.{wrote-as, wrote-then, room-first, room-then}
-use Rattle.clause_writer.proofs.Reading.{groups, later-groups, booleans, held, room, listed}
+use Rattle.clause_buffer.proofs.Writing.{wrote-words-as, wrote-words-then, room-first, room-then}
+use Rattle.clause_writer.proofs.Reading.{groups, later-groups, booleans, drawn-held, room, listed}
 use Rattle.clause_writer.proofs.write.Statement.{statement}
 use Rattle.clause_writer.proofs.write.Tie as tie
 
@@ -30,7 +30,7 @@ write-nodes-requires c κs =
     let start = c .before .before .before .before .before .before .before .before .before .before .before .before .before in
     let d = start .pre .drawing in
     let left = room-then (groups d) (c .before .before .before .before .before .before .before .write-levels .ensures) (room d (start .args .out .now) (start .pre .fits)) in
-    (held d, room-then (later-groups d) (c .before .before .before .write-units .ensures) left)
+    (drawn-held d, room-then (later-groups d) (c .before .before .before .write-units .ensures) left)
 
 same-length : tie.Need-same-length
 same-length c = search needs
@@ -39,8 +39,8 @@ returns : tie.Need-returns
 returns c =
     λ ls ns d. (
     let units = c .before .before .before .before .before .before in
-    let all = wrote-then (units .before .before .before .before .write-levels .ensures) (wrote-then (units .write-units .ensures) (c .before .before .write-nodes .ensures)) in
-    listed d (wrote-as (sym (groups d .joined)) all)
+    let all = wrote-words-then (units .before .before .before .before .write-levels .ensures) (wrote-words-then (units .write-units .ensures) (c .before .before .write-nodes .ensures)) in
+    listed d (wrote-words-as (sym (groups d .joined)) all)
     )
 
 pub write-spec : {M : Type 1} → statement M

@@ -7,14 +7,14 @@ use Prim.Native.Nat.{_<_, _-_}
 use native.Mathlib.Omega.{arith}
 use lib.ListN.{length}
 use Rattle.word.specs.Word.{boolean, literalWord}
-use Rattle.clause_buffer.proofs.Writing.{wrote-as, wrote-then, room-first, room-then, Left, left-all, left-room, left-less, left-none}
+use Rattle.clause_buffer.proofs.Writing.{wrote-words-as, wrote-words-then, room-first, room-then, WordsLeft, words-left-all, words-left-room, words-left-less, words-left-none}
 use Rattle.clause_writer.proofs.Turns.{childrenLeft, node-turn, children-turn, children-none}
 use Rattle.clause_writer.proofs.write_node.Statement.{statement}
 use Rattle.clause_writer.proofs.write_node.Tie as tie
 
 abbrev Inv-children : tie.InvT-children
 Inv-children orders earlier edges out₀ start n at₀ j₀ out at j =
-    Left (childrenLeft orders (boolean n) earlier edges 1) at₀ out₀ (childrenLeft orders (boolean n) earlier edges j) at out
+    WordsLeft (childrenLeft orders (boolean n) earlier edges 1) at₀ out₀ (childrenLeft orders (boolean n) earlier edges j) at out
 
 abbrev μ-children : tie.MeasureT-children
 μ-children orders earlier edges out₀ start n at₀ j₀ out at j = length edges - j
@@ -52,7 +52,7 @@ children-holds c =
     let e =
     node-turn (args .orders) (args .node .0) (args .earlier) (args .edges .now) (start .pre .0) w (start .pre .1 .0) (c .before .before .before .child-literal .ensures) in
     let put = c .before .before .put-two in
-    left-all _ _ (put .result) (put .last .0) refl (room-then e (put .ensures) (start .pre .1 .1 .1 .1))
+    words-left-all _ _ (put .result) (put .last .0) refl (room-then e (put .ensures) (start .pre .1 .1 .1 .1))
 
 cast-child-literal : tie.Need-cast-child-literal Inv-children μ-children
 cast-child-literal c = search needs
@@ -86,7 +86,7 @@ put-three-requires c κs =
     let e =
     children-turn (args .orders) (args .node .0) (args .earlier) (args .edges .now) (turn .children .j) (start .pre .0) w h
     (c .before .before .before .literal2 .ensures) (c .child-literal2 .ensures) in
-    left-room e (turn .children .inv)
+    words-left-room e (turn .children .inv)
 
 add-j : tie.Need-add-j Inv-children μ-children
 add-j c = search needs
@@ -105,7 +105,7 @@ children-again c =
     let e =
     children-turn (args .orders) (args .node .0) (args .earlier) (args .edges .now) (turn .children .j) (start .pre .0) w h
     (c .before .before .before .before .before .before .literal2 .ensures) (c .before .before .before .child-literal2 .ensures) in
-    left-less e (turn .children .inv) (c .before .before .put-three .ensures)
+    words-left-less e (turn .children .inv) (c .before .before .put-three .ensures)
 
 same-length : tie.Need-same-length Inv-children μ-children
 same-length c = c .before .children .inv .kept ∙ c .before .before .before .before .put-two .ensures .kept
@@ -120,7 +120,7 @@ returns c =
     node-turn (args .orders) (args .node .0) (args .earlier) (args .edges .now) (start .pre .0) w (start .pre .1 .0) (c .before .before .before .before .before .child-literal .ensures) in
     let turn = c .before in
     let done = children-none (args .orders) (boolean (made .literal .result)) (args .earlier) (args .edges .now) (turn .children .j) (omega arith) in
-    wrote-as (sym (e .joined)) (wrote-then (turn .before .before .before .put-two .ensures) (left-none done (turn .children .inv)))
+    wrote-words-as (sym (e .joined)) (wrote-words-then (turn .before .before .before .put-two .ensures) (words-left-none done (turn .children .inv)))
 
 pub write-node-spec : {M : Type 1} → statement M
 write-node-spec =

@@ -7,14 +7,14 @@ use native.Mathlib.Omega.{arith}
 use lib.ListN.{getD}
 use Rattle.encoding.specs.Boolean.{ordersBefore}
 use Rattle.clause_buffer.specs.Ended.{ended}
-use Rattle.clause_buffer.proofs.Writing.{Left, left-all, left-room, left-less, left-none}
+use Rattle.clause_buffer.proofs.Writing.{WordsLeft, words-left-all, words-left-room, words-left-less, words-left-none}
 use Rattle.clause_writer.proofs.Turns.{node-asked, nodesLeft, nodes-turn, nodes-none}
 use Rattle.clause_writer.proofs.write_nodes.Statement.{statement}
 use Rattle.clause_writer.proofs.write_nodes.Tie as tie
 
 abbrev Inv-nodes : tie.InvT-nodes
 Inv-nodes ends orders table count edges out₀ start at₀ earlier₀ level₀ k₀ out at earlier level k =
-    (earlier ≡ ordersBefore (ended ends) level) × Left (nodesLeft ends orders table count edges 0) start out₀ (nodesLeft ends orders table count edges k) at out
+    (earlier ≡ ordersBefore (ended ends) level) × WordsLeft (nodesLeft ends orders table count edges 0) start out₀ (nodesLeft ends orders table count edges k) at out
 
 abbrev μ-nodes : tie.MeasureT-nodes
 μ-nodes ends orders table count edges out₀ start at₀ earlier₀ level₀ k₀ out at earlier level k = count - k
@@ -22,7 +22,7 @@ abbrev μ-nodes : tie.MeasureT-nodes
 nodes-holds : tie.Need-nodes-holds Inv-nodes μ-nodes
 nodes-holds c =
     let start = c .before .before .before .before in
-    (refl, left-all _ _ (start .args .start) (start .args .out .now) refl (start .pre .1))
+    (refl, words-left-all _ _ (start .args .start) (start .args .out .now) refl (start .pre .1))
 
 mul-next : tie.Need-mul-next Inv-nodes μ-nodes
 mul-next c = search needs
@@ -118,7 +118,7 @@ write-node-requires c κs =
     let before = c .before .before .before-level .ensures in
     let e = nodes-turn held (turn .nodes .k) (omega arith) before in
     let a = node-asked held (turn .nodes .k) (omega arith) before in
-    (a .numbers, (a .some, (a .values, (a .known, left-room e (turn .nodes .inv .1)))))
+    (a .numbers, (a .some, (a .values, (a .known, words-left-room e (turn .nodes .inv .1)))))
 
 add-k : tie.Need-add-k Inv-nodes μ-nodes
 add-k c = search needs
@@ -132,7 +132,7 @@ nodes-again c =
     let held = turn .before .before .before .before .before .pre .0 in
     let before = c .before .before .before .before .before .before-level .ensures in
     let e = nodes-turn held (turn .nodes .k) (omega arith) before in
-    (before, left-less e (turn .nodes .inv .1) (c .before .before .write-node .ensures))
+    (before, words-left-less e (turn .nodes .inv .1) (c .before .before .write-node .ensures))
 
 same-length : tie.Need-same-length Inv-nodes μ-nodes
 same-length c = c .before .nodes .inv .1 .kept
@@ -140,7 +140,7 @@ same-length c = c .before .nodes .inv .1 .kept
 returns : tie.Need-returns Inv-nodes μ-nodes
 returns c =
     let turn = c .before in
-    left-none (nodes-none (turn .before .before .before .before .before .pre .0) (turn .nodes .k) (omega arith)) (turn .nodes .inv .1)
+    words-left-none (nodes-none (turn .before .before .before .before .before .pre .0) (turn .nodes .k) (omega arith)) (turn .nodes .inv .1)
 
 pub write-nodes-spec : {M : Type 1} → statement M
 write-nodes-spec =

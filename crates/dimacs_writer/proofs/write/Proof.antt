@@ -2,7 +2,7 @@
 use borrow.Author.Needs.{needs}
 use borrow.Author.Tests.{not-true, not-false}
 use mathlib.Core.Path.{sym, _∙_}
-use Rattle.dimacs_writer.proofs.Replies.{refused, no-room, whole}
+use Rattle.dimacs_writer.proofs.Replies.{refused, no-room, text-whole}
 use Rattle.dimacs_writer.proofs.write.Statement.{statement}
 use Rattle.dimacs_writer.proofs.write.Tie as tie
 
@@ -61,7 +61,7 @@ returns-3 : tie.Need-returns-3
 returns-3 c =
     let fit = c .before .before .before .before .before .before .before .before .before in
     let start = fit .before .before .before .before .before .before .before in
-    whole (start .args .words .now) (start .args .out .now) (fit .before .survey .result)
+    text-whole (start .args .words .now) (start .args .out .now) (fit .before .survey .result)
     (sym (fit .before .before .before .before .check-list .ensures) ∙ fit .before .before .enum-told .given .1)
     (fit .before .survey .ensures)
     (sym (fit .fits2 .ensures) ∙ not-false _ (c .before .before .before .before .before .before .before .before .if1 .left))

@@ -1,6 +1,6 @@
 -- `filler::fill` meets its contract: each pass hands on what the next needs, and what is written is cleared behind. Assumes nothing.
 use mathlib.Core.Path.{refl}
-use Rattle.filler.proofs.Passing.{finished, drawn, drawing, filled}
+use Rattle.filler.proofs.Passing.{finished, drawn, drawing, lists-filled}
 use borrow.Author.Needs.{needs}
 use Rattle.filler.proofs.fill.Statement.{statement}
 use Rattle.filler.proofs.fill.Tie as tie
@@ -47,7 +47,7 @@ returns c =
     let f = finished (s .args .coefs .now) (s .args .ends .now) (s .args .rests .now) (s .pre .0) a (s .args .orders) (s .args .table .now) (s .args .counts .nodes) _ B (s .args .counts) (s .args .edges .now) (s .args .clauses .now) M in
     let k = c .before .before .before .before .before .before .before .before .before .before .before .before .before .before .before .before .before .before .before .before .before .before .link .ensures a f in
     let d = drawing (s .args .coefs .now) (s .args .ends .now) (s .args .rests .now) (s .pre .0) a (s .args .orders) (s .args .table .now) (s .args .counts .nodes) _ B (s .args .edges .now) _ _ k in
-    filled (s .args .coefs .now) (s .args .ends .now) (s .args .rests .now) (s .pre .0) a (s .args .orders) (s .args .table .now) (s .args .counts .nodes) _ B (s .args .counts) (s .args .edges .now) (s .args .clauses .now) _ _ _ _ _ _ _ refl M k
+    lists-filled (s .args .coefs .now) (s .args .ends .now) (s .args .rests .now) (s .pre .0) a (s .args .orders) (s .args .table .now) (s .args .counts .nodes) _ B (s .args .counts) (s .args .edges .now) (s .args .clauses .now) _ _ _ _ _ _ _ refl M k
     (c .before .before .before .before .before .before .before .before .before .before .before .before .before .before .write .ensures _ _ d)
     (c .before .before .before .before .before .before .before .before .before .before .clear .ensures) (c .before .before .before .before .before .before .clear2 .ensures) (c .before .before .clear3 .ensures)
 

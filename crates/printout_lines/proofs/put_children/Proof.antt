@@ -6,12 +6,12 @@ use Prim.Native.Nat.{_-_}
 use native.Mathlib.Omega.{arith}
 use lib.ListN.{length}
 use Rattle.text.proofs.Cuts.{Left, left-all, left-less, left-none, wrote-then}
-use Rattle.printout_lines.proofs.Turns.{childrenLeft, children-turn, children-none}
+use Rattle.printout_lines.proofs.Turns.{childTextLeft, child-text-turn, child-text-none}
 use Rattle.printout_lines.proofs.put_children.Statement.{statement}
 use Rattle.printout_lines.proofs.put_children.Tie as tie
 
 abbrev Inv-children : tie.InvT-children
-Inv-children out₀ start edges at₀ j₀ out at j = Left (childrenLeft edges 0) start out₀ (childrenLeft edges j) at out
+Inv-children out₀ start edges at₀ j₀ out at j = Left (childTextLeft edges 0) start out₀ (childTextLeft edges j) at out
 
 abbrev μ-children : tie.MeasureT-children
 μ-children out₀ start edges at₀ j₀ out at j = length edges - j
@@ -40,7 +40,7 @@ children-less c = search needs
 children-again : tie.Need-children-again Inv-children μ-children
 children-again c =
     let turn = c .before .before .before .before .before .before .before .before .before .before in
-    left-less (children-turn (turn .before .before .before .args .edges .now) (turn .children .j) (omega arith)) (turn .children .inv)
+    left-less (child-text-turn (turn .before .before .before .args .edges .now) (turn .children .j) (omega arith)) (turn .children .inv)
     (wrote-then (c .before .before .before .before .before .before .before .put .ensures) (c .before .before .put-child .ensures))
 
 same-length : tie.Need-same-length Inv-children μ-children
@@ -49,7 +49,7 @@ same-length c = c .before .children .inv .kept
 returns : tie.Need-returns Inv-children μ-children
 returns c =
     let turn = c .before in
-    left-none (children-none (turn .before .before .before .args .edges .now) (turn .children .j) (omega arith)) (turn .children .inv)
+    left-none (child-text-none (turn .before .before .before .args .edges .now) (turn .children .j) (omega arith)) (turn .children .inv)
 
 pub put-children-spec : {M : Type 1} → statement M
 put-children-spec =

@@ -8,7 +8,7 @@ use native.Mathlib.Omega.{arith}
 use Rattle.diagram.specs.Table.{Node}
 use Rattle.printout_lines.specs.Lying.{Lying}
 use Rattle.text.proofs.Cuts.{Left, left-all, left-less, left-none}
-use Rattle.printout_lines.proofs.Drawn.{linesLeft, places, nodes-turn, nodes-none}
+use Rattle.printout_lines.proofs.Drawn.{linesLeft, places, lines-turn, lines-none}
 use Rattle.printout_lines.proofs.put_nodes.Statement.{statement}
 use Rattle.printout_lines.proofs.put_nodes.Tie as tie
 
@@ -111,7 +111,7 @@ nodes-again : tie.Need-nodes-again Inv-nodes μ-nodes
 nodes-again c =
     let turn = c .before .before .before .before .before .before .before .before .before .before .before in
     λ ns l.
-    left-less (nodes-turn l (turn .nodes .node) _ _ (omega arith) (c .before .before .before .before .before .before .before .before .before .first-edge .ensures ns _ l) (c .before .before .before .before .before .before .before .before .first-edge2 .ensures ns _ l)) (turn .nodes .inv ns l)
+    left-less (lines-turn l (turn .nodes .node) _ _ (omega arith) (c .before .before .before .before .before .before .before .before .before .first-edge .ensures ns _ l) (c .before .before .before .before .before .before .before .before .first-edge2 .ensures ns _ l)) (turn .nodes .inv ns l)
     (c .before .before .put-node .ensures)
 
 same-length : tie.Need-same-length Inv-nodes μ-nodes
@@ -123,7 +123,7 @@ same-length c =
 returns : tie.Need-returns Inv-nodes μ-nodes
 returns c =
     let turn = c .before in
-    λ ns l. left-none (nodes-none l (turn .nodes .node) (omega arith)) (turn .nodes .inv ns l)
+    λ ns l. left-none (lines-none l (turn .nodes .node) (omega arith)) (turn .nodes .inv ns l)
 
 pub put-nodes-spec : {M : Type 1} → statement M
 put-nodes-spec =

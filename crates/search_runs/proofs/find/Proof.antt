@@ -11,7 +11,7 @@ use Rattle.word.specs.Record.{used}
 use Rattle.word.proofs.Flat.{used-length}
 use Rattle.finder.proofs.Gap.{gap-most}
 use Rattle.finder.proofs.Says.{find-says, nothing-gap}
-use Rattle.search_runs.specs.Runs.{run}
+use Rattle.search_runs.specs.Runs.{secondRun}
 use Rattle.search_runs.proofs.Views.{run-length, run-words}
 use Rattle.search_runs.proofs.Finding.{find-runs}
 use Rattle.search_runs.proofs.find.Statement.{statement}
@@ -69,7 +69,7 @@ add-number c =
     let m = s .args .main in
     let n = s .args .count in
     let found = rw (run-words t m n (s .pre .0)) at (c .before .before .before .before .find-sorted .ensures) in
-    let says = find-says (run t m n) (s .args .level) (s .args .r .0) (c .before .before .k2 .given .0 .0 .0) (sym found ∙ c .before .before .k2 .given .1) in
+    let says = find-says (secondRun t m n) (s .args .level) (s .args .r .0) (c .before .before .k2 .given .0 .0 .0) (sym found ∙ c .before .before .k2 .given .1) in
     omega (arith, says .0, run-length t m n (s .pre .0) (s .pre .1))
 
 enum-known-second : tie.Need-enum-known-second
@@ -84,15 +84,15 @@ add-gap c =
     let level = s .args .level in
     let r = s .args .r .0 in
     let a = nothing-gap (used t m) level r (c .before .before .before .before .before .before .first .given .0 .0) (sym (c .before .before .before .before .before .before .before .before .find-near .ensures) ∙ c .before .before .before .before .before .before .first .given .1) in
-    let b = nothing-gap (run t m n) level r (c .before .second .given .0 .0) (sym (rw (run-words t m n (s .pre .0)) at (c .before .before .before .find-sorted .ensures)) ∙ c .before .second .given .1) in
+    let b = nothing-gap (secondRun t m n) level r (c .before .second .given .0 .0) (sym (rw (run-words t m n (s .pre .0)) at (c .before .before .before .find-sorted .ensures)) ∙ c .before .second .given .1) in
     let mid = s .pre .0 in
-    omega (arith, a, b, gap-most (used t m) level r, gap-most (run t m n) level r, used-length t m (omega (arith, s .pre .1)), run-length t m n mid (s .pre .1))
+    omega (arith, a, b, gap-most (used t m) level r, gap-most (secondRun t m n) level r, used-length t m (omega (arith, s .pre .1)), run-length t m n mid (s .pre .1))
 
 returns : tie.Need-returns
 returns c =
     let s = c .before .before .before .before .before .before .before in
     let t = s .args .table .now in
-    let g = findIn (run t (s .args .main) (s .args .count)) (s .args .level) (s .args .r .0) in
+    let g = findIn (secondRun t (s .args .main) (s .args .count)) (s .args .level) (s .args .r .0) in
     find-runs t (s .args .main) (s .args .count) (s .pre .0) (s .pre .1) (s .args .level) (s .args .r .0) (At (record { 0 = c .before .k .given .0 .0 .0 })) g
     (sym (c .before .k .given .1) ∙ c .before .before .before .find-near .ensures) refl
 

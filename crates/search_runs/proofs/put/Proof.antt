@@ -8,8 +8,8 @@ use Rattle.word.specs.Record.{used}
 use Rattle.word.proofs.Flat.{used-length}
 use Rattle.finder.proofs.Gap.{gap-most}
 use Rattle.finder.proofs.Says.{nothing-gap, missing-nothing, not-both}
-use Rattle.search_runs.specs.Runs.{run}
-use Rattle.search_runs.proofs.Putting.{tail-length, tail-used, put-in}
+use Rattle.search_runs.specs.Runs.{secondRun}
+use Rattle.search_runs.proofs.Putting.{tail-length, tail-used, put-second}
 use Rattle.search_runs.proofs.put.Statement.{statement}
 use Rattle.search_runs.proofs.put.Tie as tie
 
@@ -54,7 +54,7 @@ returns c =
     let m = s .args .main in
     let n = s .args .count in
     let reply = rw (tail-used t m n (s .pre .0) (s .pre .1)) at (c .before .before .find-near .ensures) in
-    absurd (not-both _ _ (sym (c .enum-told .given .1) ∙ reply ∙ missing-nothing (run t m n) (s .args .level) (s .args .r .0) (s .pre .3)))
+    absurd (not-both _ _ (sym (c .enum-told .given .1) ∙ reply ∙ missing-nothing (secondRun t m n) (s .args .level) (s .args .r .0) (s .pre .3)))
 
 mul-insert : tie.Need-mul-insert
 mul-insert c = search needs
@@ -88,7 +88,7 @@ returns-2 c =
     let t = s .args .table .now in
     let m = s .args .main in
     let tail = take (length t - m * 4) (drop (m * 4) t) in
-    put-in t m (s .args .count) (s .pre .0) (s .pre .1) (s .args .level) (s .args .r .0) (s .args .lower) (s .args .upper)
+    put-second t m (s .args .count) (s .pre .0) (s .pre .1) (s .args .level) (s .args .r .0) (s .args .lower) (s .args .upper)
     (c .before .before .before .before .before .gap .given .0 .0) (c .before .before .insert .last .0)
     (nothing-gap (used tail (s .args .count - m)) (s .args .level) (s .args .r .0) (c .before .before .before .before .before .gap .given .0 .0) (sym (c .before .before .before .before .before .before .before .find-near .ensures) ∙ c .before .before .before .before .before .gap .given .1))
     (c .before .before .insert .ensures .0) (c .before .before .insert .ensures .1) (c .before .before .insert .kept .0)
