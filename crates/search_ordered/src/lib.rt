@@ -234,12 +234,12 @@ pub fn find_from(table: &[u32], count: usize, cursor: &mut usize, level: u32, r:
     requires { ⌜ (count * 4 ≤ length (now table)) × Sorted (used (now table) count) ⌝ }
     ensures { λ f. ⌜ f ≡ findIn (used (now (table .entry)) count) level (r .0) ⌝ }
 {
-    let p = pass_few(table, count, *cursor, r);
-    if hit(table, count, NodeNumber(p), level, r) {
-        *cursor = p;
-        return Found::At(NodeNumber(p));
+    let k = pass_few(table, count, *cursor, r);
+    if hit(table, count, NodeNumber(k), level, r) {
+        *cursor = k;
+        return Found::At(NodeNumber(k));
     }
-    let q = walk(table, count, p, level, r);
+    let q = walk(table, count, k, level, r);
     *cursor = gap_near(table, count, q, level, r);
     found_at(table, count, *cursor, level, r)
 }
