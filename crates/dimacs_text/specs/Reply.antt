@@ -9,7 +9,6 @@ use Rattle.refusal.specs.Table.{numberOf, placeOf, unlessRefused}
 use Rattle.word.specs.Word.{lastBoolean}
 use Rattle.word.specs.Padded.{padded}
 use Rattle.refusal.specs.declared.Refusal.the-variants.{NoRoom, NotDimacs}
-use Rattle.refusal.specs.declared.Checked.the-variants as check
 use Rattle.clause.specs.Check.{listFrom}
 use Rattle.dimacs_text.specs.declared.Converted.{Converted}
 use Rattle.dimacs_text.specs.declared.Converted.the-variants.{Length, Refused}

@@ -9,7 +9,6 @@ use Rattle.word.specs.Record.{recordWords, mostNodes}
 use Rattle.refusal.specs.Table.{numberOf, placeOf}
 use Rattle.refusal.specs.declared.Refusal.{Refusal}
 use Rattle.refusal.specs.declared.Refusal.the-variants.{TooManyNodes, TooManyEdges, TooManyWords, TooManyBooleans}
-use Rattle.refusal.specs.declared.Checked.the-variants as check
 use Rattle.diagram.specs.Table.{Node}
 use Rattle.diagram.specs.Flat.{edgeCount}
 use Rattle.diagram.specs.Constraint.{Constraint}

@@ -68,7 +68,7 @@ pub record Settled (t : List ℕ) (m count w : ℕ) (t′ : List ℕ) (k : ℕ) 
   pub long : length t′ ≡ length t
   pub way : ((k ≡ m) × (t′ ≡ t)) ⊎ ((k ≡ count) × Merged t m count t′)
 
--- A record was put into the second run, at the gap of the remainder r; no word before the run or behind the record's place has changed.
+-- A record was put into the second run, at the gap of the remainder r; no word before the run, or behind the run as it is then, has changed.
 pub record PutIn (t : List ℕ) (m count level r lower upper : ℕ) (t′ : List ℕ) : Type 0 where
   pub main : used t′ m ≡ used t m
   pub pending : secondRun t′ m (count + 1) ≡ insertAt (gapIn (secondRun t m count) level r) (record { level = level; lower = lower; upper = upper; first = 0 }) (secondRun t m count)
