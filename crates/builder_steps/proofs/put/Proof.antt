@@ -9,7 +9,7 @@ use Rattle.builder_steps.proofs.put.Statement.{statement}
 use Rattle.builder_steps.proofs.put.Tie as tie
 
 returns : tie.Need-returns
-returns c = (search needs, refl)
+returns c = search needs
 
 settle-requires : tie.Need-settle-requires
 settle-requires c κs =
