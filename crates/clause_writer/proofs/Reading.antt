@@ -15,9 +15,9 @@ use Rattle.clause.proofs.Written.{words-append}
 use Rattle.diagram.specs.Level.{Level}
 use Rattle.diagram.specs.Table.{Node, noNode}
 use Rattle.diagram.specs.Claim.{noLevel, nodeAt, levelAt}
-use Rattle.diagram.specs.Flat.{recordOf, recordsFrom, edgeWords, firstPlace, Small}
+use Rattle.diagram.specs.Flat.{recordOf, recordsFrom, edgeWords, endAt, firstPlace, Small}
 use Rattle.diagram.proofs.Places.{map-at}
-use Rattle.diagram.proofs.Written.{recordsFrom-length, recordsFrom-at, place-inside, edges-in}
+use Rattle.diagram.proofs.Written.{recordsFrom-length, record-drawn, place-inside, edges-in}
 use Rattle.encoding.specs.Boolean.{orders, ordersBefore}
 use Rattle.encoding.specs.Pattern.{ordersOf, unitsOf, nodesOf, clauseWords, wordCount}
 use Rattle.encoding.proofs.Fits.{words-count}
@@ -25,7 +25,7 @@ use Rattle.word.proofs.Flat.{recordAt, records-length, used-at}
 use Rattle.clause_buffer.specs.Written.{Room, WroteWords}
 use Rattle.clause_writer.specs.Drawing.{Drawing, Listed}
 use Rattle.clause_buffer.specs.Ended.{ended}
-use Rattle.clause_writer.specs.Held.{endAt, childWords, nodeFrom, nodesHeld, Sound, Held}
+use Rattle.clause_writer.specs.Held.{childWords, nodeFrom, nodesHeld, Sound, Held}
 
 -- ---- Levels by their domain ends
 
@@ -134,10 +134,7 @@ module _ {ls : List Level} {ns : List Node} {ds : List ℕ} {D : ℕ} {t : List 
   edges-long = omega (arith, ap length (d .edges), length-take (length (edgeWords ns)) es)
 
   record-is : (k : ℕ) → k < count → recordAt t k ≡ recordOf (0 + firstPlace ns k) (nodeAt ns k)
-  record-is k h =
-      sym (used-at t count long k h)
-      ∙ ap (λ (xs : List Record). getD xs k noRecord) (d .records)
-      ∙ recordsFrom-at 0 ns k (omega (arith, d .counted))
+  record-is = record-drawn t count ns long (d .records) (d .counted)
 
   node-is : (k : ℕ) → k < count → nodeFrom ds es (recordAt t k) ≡ nodeAt ns k
   node-is k h =

@@ -19,7 +19,8 @@ use Rattle.encoding.specs.Boolean.{orders, ordersBefore}
 use Rattle.encoding.specs.Pattern.{childrenOf, nodeOf, nodesOf}
 use Rattle.word.proofs.Flat.{recordAt, used-length, used-at}
 use Rattle.clause_buffer.specs.Ended.{ended}
-use Rattle.clause_writer.specs.Held.{endAt, childWords, nodeFrom, Numbered, Held}
+use Rattle.diagram.specs.Flat.{endAt}
+use Rattle.clause_writer.specs.Held.{childWords, nodeFrom, Numbered, Held}
 
 -- ---- The number of order Booleans before a level
 

@@ -2,19 +2,17 @@
 -- Assumes nothing.
 use mathlib.Core.Path.{_≡_}
 use mathlib.Core.List.{List, map}
-use Prim.Native.Nat.{ℕ, suc, _+_, _*_, _-_, _≤_, _<_}
+use Prim.Native.Nat.{ℕ, suc, _+_, _*_, _≤_, _<_}
 use lib.ListN.{length, getD, take, drop}
 use Rattle.clause_buffer.specs.Ended.{ended}
 use Rattle.word.specs.Word.{lastBoolean}
 use Rattle.word.specs.Edge.{edgeBoolean, edgeIn}
 use Rattle.word.specs.Record.{Record, used}
 use Rattle.diagram.specs.Table.{Node}
+use Rattle.diagram.specs.Flat.{endAt}
 use Rattle.encoding.specs.Boolean.{orders}
 
--- The domain end of a level that is counted from 1, and the words of a node's children.
-abbrev pub endAt : List ℕ → ℕ → ℕ
-endAt ds level = getD ds (level - 1) 0
-
+-- The words of a node's children.
 abbrev pub childWords : List ℕ → List ℕ → Record → List ℕ
 childWords ds es x = take (suc (endAt ds (x .level))) (drop (x .first) es)
 

@@ -17,7 +17,7 @@ use Rattle.word.specs.Record.{Record, noRecord, used, mostNodes}
 use Rattle.diagram.specs.Level.{Level, AllAscend, R}
 use Rattle.diagram.specs.Table.{Node, noNode, table, root, row}
 use Rattle.diagram.specs.Claim.{nodeAt, OfLevel, Leads, Whole}
-use Rattle.diagram.specs.Flat.{recordOf, recordsFrom, edgeWords, edgeCount}
+use Rattle.diagram.specs.Flat.{recordOf, recordsFrom, edgeWords, edgeCount, endAt}
 use Rattle.diagram.proofs.Places.{map-at, row-at, row-length}
 use Rattle.diagram.proofs.Whole.{whole}
 use Rattle.finder.specs.declared.Found.{Found}
@@ -30,7 +30,7 @@ use Rattle.finder.proofs.Says.{find-says}
 use Rattle.search_ordered.proofs.Search.{find-there}
 use Rattle.constraint.specs.Lent.{levelsOf, Lent}
 use Rattle.constraint.proofs.Slices.{levels-good, dom-at, off-at, rest-at, rest-small}
-use Rattle.linker.specs.Sum.{endOf, endSum, Countable}
+use Rattle.linker.specs.Sum.{endSum, Countable}
 use Rattle.linker.specs.Row.{edgeFound, leadsTo, rowOf, rowAt, rowsOf, linkedFrom}
 use Rattle.linker.specs.Linked.{slicedNodes, Finished, Linked}
 use Rattle.builder.proofs.Diagram.{label-ends, table-sorted}
@@ -60,12 +60,12 @@ rows-are cs ds rs xs (n ∷ ns) e = ap₂ (λ (p q : List ℕ). p ++ q) (e 0 (om
 
 -- places that count a child for each value are the records'
 linked-are : (ds : List ℕ) (first : ℕ) (ns : List Node)
-    → ((m : ℕ) → m < length ns → length (nodeAt ns m .children) ≡ endOf ds (recordOf 0 (nodeAt ns m)) + 1)
+    → ((m : ℕ) → m < length ns → length (nodeAt ns m .children) ≡ endAt ds (nodeAt ns m .level) + 1)
     → linkedFrom ds first (map (recordOf 0) ns) ≡ recordsFrom first ns
 unfolding linkedFrom recordsFrom
 linked-are ds first [] e = refl
 linked-are ds first (n ∷ ns) e =
-    rw (e 0 (omega arith)) (ap (λ (xs : List Record). recordOf first n ∷ xs) (linked-are ds (first + (endOf ds (recordOf 0 n) + 1)) ns (λ m h. e (suc m) (omega arith))))
+    rw (e 0 (omega arith)) (ap (λ (xs : List Record). recordOf first n ∷ xs) (linked-are ds (first + (endAt ds (n .level) + 1)) ns (λ m h. e (suc m) (omega arith))))
 
 module _ (ls : List Level) (a : ℤ) (g : AllAscend ls) (small : (i : ℕ) → R (drop i ls) < 4294967296) where
   -- an edge that leads where a remainder belongs is what the search gives
@@ -155,7 +155,7 @@ module _ (cs ds rs : List ℕ) (L : Lent cs ds rs) where
             edges-kept = e .wide;
           }
         where
-          places : (m : ℕ) → m < length (slicedNodes cs ds a) → length (nodeAt (slicedNodes cs ds a) m .children) ≡ endOf ds (recordOf 0 (nodeAt (slicedNodes cs ds a) m)) + 1
+          places : (m : ℕ) → m < length (slicedNodes cs ds a) → length (nodeAt (slicedNodes cs ds a) m .children) ≡ endAt ds (nodeAt (slicedNodes cs ds a) m .level) + 1
           places m h = let x = slice-level cs ds rs L a m h in rw (x .3) (omega (arith, children-count m (x .0) (x .1) (x .2)))
 
           rows : (m : ℕ) → m < length (slicedNodes cs ds a)

@@ -12,7 +12,7 @@ use Rattle.diagram.specs.Table.{row}
 use Rattle.finder.specs.declared.Found.{Found}
 use Rattle.finder.specs.declared.Found.the-variants.{At, Nothing}
 use Rattle.finder.specs.Find.{findIn}
-use Rattle.linker.specs.Sum.{endOf}
+use Rattle.diagram.specs.Flat.{endAt}
 
 -- The edge of a search's reply. In a finished table a search for a child that is not decided finds a record.
 abbrev pub edgeFound : Found → Edge
@@ -44,4 +44,4 @@ placed first x = record { level = x .level; lower = x .lower; upper = x .upper; 
 -- A run of records with theirs, from a place on.
 unfoldable pub linkedFrom : List ℕ → ℕ → List Record → List Record
 linkedFrom ds first [] = []
-linkedFrom ds first (x ∷ xs) = placed first x ∷ linkedFrom ds (first + (endOf ds x + 1)) xs
+linkedFrom ds first (x ∷ xs) = placed first x ∷ linkedFrom ds (first + (endAt ds (x .level) + 1)) xs

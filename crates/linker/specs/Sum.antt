@@ -1,18 +1,15 @@
 -- THE SUM OF DOMAIN ENDS over records, from which the encoder computes document 01's edge count and clause word count. Assumes nothing.
-use Prim.Native.Nat.{ℕ, _+_, _*_, _-_, _≤_, _<_}
+use Prim.Native.Nat.{ℕ, _+_, _*_, _≤_, _<_}
 use mathlib.Core.List.{List, [], _∷_}
 use lib.ListN.{length, getD}
 use Rattle.word.specs.Record.{Record, mostNodes, noRecord, used}
+use Rattle.diagram.specs.Flat.{endAt}
 use Rattle.diagram.specs.Constraint.{lastEnd}
-
--- The domain end of a record's level; levels are counted from 1 in a record.
-abbrev pub endOf : List ℕ → Record → ℕ
-endOf ds x = getD ds (x .level - 1) 0
 
 -- THE SUM.
 unfoldable pub endSum : List ℕ → List Record → ℕ
 endSum ds [] = 0
-endSum ds (x ∷ xs) = endOf ds x + endSum ds xs
+endSum ds (x ∷ xs) = endAt ds (x .level) + endSum ds xs
 
 -- Each record is of one of n levels.
 abbrev pub Levelled : ℕ → List Record → Type 0

@@ -14,8 +14,8 @@ use Rattle.word.proofs.Kept.{Parts}
 use Rattle.diagram.specs.Table.{Node, noNode}
 use Rattle.diagram.specs.Claim.{nodeAt}
 use Rattle.diagram.specs.Flat.{recordOf, edgeWords, firstPlace}
-use Rattle.diagram.proofs.Written.{recordsFrom-at, place-inside, edges-in}
-use Rattle.word.proofs.Flat.{recordAt, used-at}
+use Rattle.diagram.proofs.Written.{record-drawn, place-inside, edges-in}
+use Rattle.word.proofs.Flat.{recordAt}
 use Rattle.printout_lines.specs.Text.{nodeLine, nodeLines}
 use Rattle.printout_lines.specs.Lying.{Lying}
 
@@ -56,10 +56,7 @@ linesLeft ns k = nodeLines k (drop k ns)
 
 module _ {ns : List Node} {t : List ℕ} {count : ℕ} {es : List ℕ} {total : ℕ} (l : Lying ns t count es total) where
   record-is : (k : ℕ) → k < count → recordAt t k ≡ recordOf (0 + firstPlace ns k) (nodeAt ns k)
-  record-is k h =
-      sym (used-at t count (l .room) k h)
-      ∙ ap (λ (xs : List Record). getD xs k noRecord) (l .records)
-      ∙ recordsFrom-at 0 ns k (omega (arith, l .counted))
+  record-is = record-drawn t count ns (l .room) (l .records) (l .counted)
 
   pub first-is : (k : ℕ) → k < count → getD t (k * 4 + 3) 0 ≡ firstPlace ns k
   first-is k h = omega (arith, ap (λ (x : Record). x .first) (record-is k h))
