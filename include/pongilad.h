@@ -18,14 +18,31 @@
  *
  * WORDS
  *   The top two bits of a word are its kind, the other 30 its payload.
- *     constraint words  kind 0, the first: the payload is the bound.
- *                       kind 1, every later one: a term. Bits 29 to 16 are the domain end d, 1 to 15; bits 15 to 0 the
- *                       coefficient a, 1 to 65,535. There are 1 to 64 terms.
- *                       The constraint: the sum of a times y over the terms, each y from 0 to its d, is at most the bound.
+ *     constraint words  such as 1FFFFFFC C0000002 40040003 9FFFFFFE 60070002: 3u - 2v >= -4, u from 0 to 4, v from -2 to 5.
+ *                       kind 0, the first word: the bound.
+ *                       kind 3, only as the second word, or left out: the relation, 0 at most, 1 less, 2 at least, 3 greater.
+ *                       With it the bound is the first word's payload less 536,870,912; without it the relation is at most and
+ *                       the bound is the payload as it stands.
+ *                       kind 1, a term. Bit 29 makes its coefficient negative; bits 28 to 16 are the distance d from its lower to
+ *                       its upper end, 1 to 15; bits 15 to 0 the coefficient a without its sign, 1 to 65,535. There are 1 to 64.
+ *                       kind 2, only right before a term, or left out: its lower end, the payload less 536,870,912, from
+ *                       -1,000,000 to 1,000,000; without it the lower end is 0.
+ *                       The constraint: the sum of a, or -a, times the value over the terms, each value from its lower to its
+ *                       upper end, stands in the relation to the bound. A bound and terms alone: a times y, each y from 0 to its
+ *                       d, add up to at most the bound.
  *     edge words        a node's number, or PONGILAD_FALSE or PONGILAD_TRUE.
  *     clause words      kind 2, a literal: bit 29 negates it, bits 28 to 0 are the Boolean, from 1.
  *                       kind 3 ends a clause: the payload is the number of its literals.
  *                       A clause list is lent without the zeros that a call left behind it: a word of 0 is refused with 11.
+ *
+ * THE BASE FORM, which the table, the edges and the order Booleans speak of
+ *   Every constraint is brought into the form of a bound and terms alone, with y from 0 to d for each term:
+ *     - at least and greater are turned round: the bound and every coefficient change their sign, and they become at most and less;
+ *     - less than the bound becomes at most the bound less 1;
+ *     - a term that is positive then has y = value - lower end, and a times the lower end is taken from the bound;
+ *     - a term that is negative then has y = upper end - value, and a times the upper end is added to the bound.
+ *   The example becomes -3u + 2v <= 4, so the first y is 4 - u, the second v + 2, and the bound 4 + 3 * 4 + 2 * 2 = 20.
+ *   The new bound may be below 0. Then no values satisfy the constraint, its root is F, and there is no node.
  *
  * DIMACS TEXT, as bytes
  *   written               `p cnf V C` with V the greatest Boolean of the list (0 where it has none) and C the number of its clauses; then a line a
@@ -38,14 +55,17 @@
  *                         behind the last literal of each clause. A clause has up to 1,073,741,823 literals. A number has no plus sign, and no 0
  *                         before other digits.
  *
- * REFUSALS, by number. Checks run in this order (pongilad_read: 16 before 15); 4 and 5 are tried term by term, 11, 12 and 13 word by word, the lower number
- * first. Places count from 0.
+ * REFUSALS, by number. Checks run in this order, but that pongilad_encode tries 17 and then 18 between 2 and 3, and 4 and 5 term by term;
+ * 11, 12 and 13 are tried word by word; pongilad_read tries 16 before 15. For one term or word the lower number comes first. Places count
+ * from 0.
  *   No.  The call refuses because                                   Place                 Lent lists afterwards
  *    1   there are no constraint words                              0                     as they were
- *    2   the first word has another kind than 0, or a later         the first such word   as they were
- *        one another kind than 1
+ *    2   a word cannot stand where it stands: the first is not      the first such word;  as they were
+ *        of kind 0, a later one is, one of kind 3 is not the        the number of words
+ *        second, or one of kind 2 follows one of kind 2; or the     where only the end
+ *        last word is of kind 2                                     is wrong
  *    3   there is no term, or there are more than 64                the number of words   as they were
- *    4   a domain end is 0 or greater than 15                       the term's word       as they were
+ *    4   a distance d, without bit 29, is 0 or greater than 15      the term's word       as they were
  *    5   a coefficient is 0                                         the term's word       as they were
  *    6   the diagram has more nodes than the table has room for     0                     all words of all three are 0
  *    7   the diagram has more edges than the edge list has words    0                     all words of all three are 0
@@ -66,7 +86,9 @@
  *                                                                   the text's length
  *                                                                   where a legal text
  *                                                                   begins with all of it
- *   1 to 9 come from pongilad_encode, 10 to 14 from pongilad_test, 11 to 15 from pongilad_write, 16 and 15 in this order from pongilad_read.
+ *   17   the relation is above 3                                    1                     as they were
+ *   18   a lower end is below -1,000,000 or above 1,000,000         the word              as they were
+ *   1 to 9, 17 and 18 come from pongilad_encode, 10 to 14 from pongilad_test, 11 to 15 from pongilad_write, 16 and 15 in this order from pongilad_read.
  *   6, 7 and 8 go by what the finished diagram needs. pongilad_write zeroes the lent text after 11 to 14 too.
  */
 #ifndef PONGILAD_H
@@ -94,7 +116,7 @@ typedef struct {
 } pongilad_node;
 
 /* What pongilad_encode replies.
- *   number  0: accepted; 1 to 9: the number of the refusal
+ *   number  0: accepted; 1 to 9, 17 or 18: the number of the refusal
  *   place   the place of the refusal; 0 where accepted
  *   nodes   how many node records the table holds; 0 where refused
  *   edges   how many edge words the edge list holds; 0 where refused
@@ -140,13 +162,16 @@ typedef struct {
  *   table    a node record is four words: level from 1, lower end and upper end of the label, place of its first edge in the edge
  *            list. Nodes stand by level, then by lower end; a node's number is that of its record, from 0, and node 0 is the root.
  *            There is room for table_length / 4 nodes, rounded down, and for at most PONGILAD_NODES.
- *   edges    the children of each node, from value 0 to d of its level's term, nodes in order.
+ *   edges    the children of each node, for y from 0 to d of its level's term, nodes in order.
  *   clauses  with D the sum of all d: the order Booleans 1 to D, term by term, where Boolean (i, j), j from 1 to d, says that y of
  *            term i is below j; D + 1 is true; D + 2 is false; D + 3 + k is node k. First the order of each term's Booleans, then
  *            three single literals (true, not false, the root), then the edges of each node.
- *            The length is 3 * (d - 1) for each term, 6, and 3 + 4 * d for each node of a level with domain end d.
- * Accepted: every word behind the counts of the reply is 0, up to the end of each lent list, and a constraint that always holds
- * has no node. Refused: see the table above. */
+ *            The length is 3 * (d - 1) for each term, plus 6, plus 3 + 4 * d for each node of a level with domain end d.
+ *            Where all clauses are true, y of a term is the number of its false order Booleans, and the value in the constraint as it
+ *            was written is the lower end plus y, or the upper end less y where the base form has the term negative.
+ * Accepted: every word behind the counts of the reply is 0, up to the end of each lent list. A constraint that always holds and one
+ * that never does have no node: the root's literal, which is then the last but one of the clause words, is that of D + 1 or D + 2.
+ * Refused: see the table above. */
 pongilad_encoded pongilad_encode(const uint32_t *words, size_t words_length, uint32_t *table, size_t table_length, uint32_t *edges,
                                  size_t edges_length, uint32_t *clauses, size_t clauses_length);
 

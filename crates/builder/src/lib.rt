@@ -8,13 +8,13 @@ ghost use Prim.Native.Nat.{_+_, _-_, _<_, _≤_};
 ghost use lib.ListN.{length, getD};
 ghost use Rattle.word.specs.Record.{used};
 ghost use Rattle.finder.specs.Find.{Missing};
-ghost use Rattle.constraint.specs.Lent.{Lent};
+ghost use Rattle.constraint.specs.Lent.{levelsOf, Lent};
+ghost use Rattle.diagram.specs.Level.{R};
 ghost use Rattle.builder_steps.specs.Branch.{ends as ends′};
 ghost use Rattle.builder.specs.Built.{Ready, Good, NodeOk, RowOk, RootOk};
 
-// The root: T; a node, with the number of records; or no room for the diagram.
+// The root's node, with the number of records; or no room for the diagram.
 pub enum Root {
-    True,
     Node(usize),
     Full,
 }
@@ -110,7 +110,7 @@ fn build_row<'a>(
     Built::Done(m, n, e)
 }
 
-// The diagram of the bound, built into the table by way of the lent words: its records in order, the fourth word of each 0.
+// The diagram of an undecided bound, built into the table by way of the lent words: its records in order, the fourth word of each 0.
 pub fn build<'a>(
     coefs: &'a [u32],
     ends: &'a [u32],
@@ -120,13 +120,9 @@ pub fn build<'a>(
     bound: Remainder,
 ) -> Root
     requires { ⌜ Lent (now coefs) (now ends) (now rests) ⌝ }
-    requires { ⌜ 4 ≤ length (now work) ⌝ }
+    requires { ⌜ (4 ≤ length (now work)) × (bound .0 < R (levelsOf (now coefs) (now ends))) ⌝ }
     ensures { λ b. ⌜ RootOk (now (coefs .entry)) (now (ends .entry)) (bound .0) (now (table .entry)) (now (table .exit)) b ⌝ }
 {
-    let x = bound.0;
-    if rests[0] <= x {
-        return Root::True;
-    }
     search_runs::prepare(work, rests);
     let Built::Done(m, n, _) = build_node(coefs, ends, rests, table, work, 0, 0, 0, 0, bound) else {
         return Root::Full;

@@ -3,6 +3,7 @@ use mathlib.Core.Path.{_≡_, sym, ap, subst}
 use mathlib.Core.List.{List}
 use Prim.Native.Nat.{ℕ, _+_, _*_, _-_, _≤_, _<_}
 use native.Mathlib.Omega.{arith}
+use lib.IntN.{ℤ}
 use lib.ListN.{length}
 use borrow.Author.Tests.{lt-ltb, le-ltb}
 use Rattle.word.specs.Word.{lastBoolean}
@@ -69,7 +70,7 @@ accepted-answer c n t e w t′ e′ w′ q F = record { reply = sym q; table = F
 
 -- ---- The counts from the sum over the records
 
-module _ {cs ds rs : List ℕ} (L : Lent cs ds rs) {a D : ℕ} {t : List ℕ} {count : ℕ} {e : Edge} (B : Tabled (constraintOf cs ds a) D e t count) where
+module _ {cs ds rs : List ℕ} (L : Lent cs ds rs) {a : ℤ} {D : ℕ} {t : List ℕ} {count : ℕ} {e : Edge} (B : Tabled (constraintOf cs ds a) D e t count) where
   abbrev c : Constraint
   c = constraintOf cs ds a
 

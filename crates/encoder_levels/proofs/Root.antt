@@ -3,12 +3,12 @@ use mathlib.Core.Path.{_≡_, refl, ap, _∙_}
 use mathlib.Core.List.{List, [], _∷_}
 use Prim.Native.Nat.{ℕ, suc, _+_, _-_, _≤_, _<_}
 use native.Mathlib.Omega.{arith}
-use lib.IntN.{pos}
+use lib.IntN.{pos, negsuc}
 use borrow.Author.Tests.{eq-eqb, lt-ltb, le-ltb}
-use Rattle.word.specs.Edge.{T, to}
+use Rattle.word.specs.Edge.{F, T, to}
 use Rattle.diagram.specs.Level.{Level, R}
 use Rattle.diagram.specs.Label.{label}
-use Rattle.diagram.specs.Table.{nodesFrom, keysBelow, insert, place, addKey, rootKeys, table, root}
+use Rattle.diagram.specs.Table.{nodesFrom, keysBelow, insert, place, addKey, rootKeys, edgeTo, table, root}
 use Rattle.diagram.proofs.Follow.{edge-T, edge-to}
 
 -- a decided bound has no nodes
@@ -16,6 +16,10 @@ no-nodes : (lev base : ℕ) (ls : List Level) → nodesFrom lev base ls [] ≡ [
 unfolding nodesFrom keysBelow
 no-nodes lev base [] = refl
 no-nodes lev base (l ∷ ls) = no-nodes (suc lev) (base + 0) ls
+
+pub root-F : (ls : List Level) (z : ℕ) → (root ls (negsuc z) ≡ F) × (table ls (negsuc z) ≡ [])
+unfolding root table rootKeys addKey edgeTo
+root-F ls z = (refl, no-nodes 1 0 ls)
 
 pub root-T : (ls : List Level) (a : ℕ) → R ls ≤ a → (root ls (pos a) ≡ T) × (table ls (pos a) ≡ [])
 unfolding root table rootKeys addKey
@@ -27,5 +31,3 @@ root-to ls a h = edge-to ls 0 (addKey ls (pos a) []) a h ∙ rw (lt-ltb a (R ls)
   where
     first : to (0 + place (label ls a .lower) (label ls a .lower ∷ [])) ≡ to 0
     first = rw (eq-eqb (label ls a .lower) (label ls a .lower) refl) (ap to (omega arith))
-
--- ---- The demands

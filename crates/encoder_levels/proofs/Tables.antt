@@ -1,14 +1,14 @@
 -- THE BUILT TABLE inside the lent one: the diagram's records stand at its front, whatever stands behind the capacity. Assumes nothing.
-use mathlib.Core.Path.{_≡_, sym, ap, ap₂, _∙_}
-use mathlib.Core.List.{List, _++_, map}
+use mathlib.Core.Path.{_≡_, sym, ap, ap₂, subst, _∙_}
+use mathlib.Core.List.{List, [], _++_, map}
 use Prim.Native.Nat.{ℕ, _+_, _*_, _-_, _/_, _≤_, _<_}
 use native.Mathlib.Omega.{arith}
-use lib.IntN.{pos}
+use lib.IntN.{ℤ, pos, negsuc}
 use lib.ListN.{length, take, drop, length-append, length-take, length-drop}
-use Rattle.word.specs.Edge.{T, to}
+use Rattle.word.specs.Edge.{Edge, F, T, to}
 use Rattle.refusal.specs.declared.Refusal.the-variants.{TooManyNodes}
 use Rattle.diagram.specs.Level.{R}
-use Rattle.diagram.specs.Table.{table}
+use Rattle.diagram.specs.Table.{table, root}
 use Rattle.diagram.specs.Flat.{recordOf, tableWords}
 use Rattle.encoding.specs.Boolean.{orders}
 use Rattle.encoding.specs.Pattern.{clauseWords}
@@ -18,7 +18,7 @@ use Rattle.encoder_levels.specs.declared.Encoded.{Encoded}
 use Rattle.encoder_levels.specs.Reply.{capacity, countsWithin}
 use Rattle.filler.specs.Filled.{nodesFor, rootFor, constraintOf, Tabled}
 use Rattle.encoder_levels.specs.Passes.{Cleared, leftIn, Answered}
-use Rattle.encoder_levels.proofs.Root.{root-T, root-to}
+use Rattle.encoder_levels.proofs.Root.{root-F, root-T, root-to}
 use Rattle.filler.proofs.Lists.{used-append}
 use Rattle.encoder_levels.proofs.Answers.{refuse-6, refused-answer}
 
@@ -30,11 +30,10 @@ part-length t = omega (arith, length-take (capacity (length t) * 4) t)
 pub whole-length : (t t′ : List ℕ) (k : ℕ) → k ≡ capacity (length t) → length t′ ≡ length (take (k * 4) t) → length (t′ ++ drop (k * 4) t) ≡ length t
 whole-length t t′ k e l = omega (arith, length-append t′ (drop (k * 4) t), length-drop (k * 4) t, length-take (k * 4) t)
 
-module _ (cs ds : List ℕ) (a D : ℕ) (is : D ≡ orders (levelsOf cs ds)) where
-  -- a decided bound
-  pub tabled-T : (t : List ℕ) → R (levelsOf cs ds) ≤ a → Tabled (constraintOf cs ds a) D T t 0
-  tabled-T t h =
-      let r = root-T (levelsOf cs ds) a h in
+module _ (cs ds : List ℕ) (D : ℕ) (is : D ≡ orders (levelsOf cs ds)) where
+  -- no nodes, and a root that is decided,
+  tabled-none : (a : ℤ) (e : Edge) (t : List ℕ) → (root (levelsOf cs ds) a ≡ e) × (table (levelsOf cs ds) a ≡ []) → Tabled (constraintOf cs ds a) D e t 0
+  tabled-none a e t r =
       record {
         booleans = is;
         root = sym (r .0);
@@ -44,9 +43,18 @@ module _ (cs ds : List ℕ) (a D : ℕ) (is : D ≡ orders (levelsOf cs ds)) whe
         records = ap (map (recordOf 0)) (sym (r .1));
       }
 
+  -- below 0,
+  pub tabled-F : (z : ℕ) (t : List ℕ) → Tabled (constraintOf cs ds (negsuc z)) D F t 0
+  tabled-F z t = tabled-none (negsuc z) F t (root-F (levelsOf cs ds) z)
+
+  -- or from the greatest sum on
+  pub tabled-T : (a : ℕ) (t : List ℕ) → R (levelsOf cs ds) ≤ a → Tabled (constraintOf cs ds (pos a)) D T t 0
+  tabled-T a t h = tabled-none (pos a) T t (root-T (levelsOf cs ds) a h)
+
   -- an undecided bound
-  pub tabled-node : (t t′ : List ℕ) (k n : ℕ) → k ≡ capacity (length t) → DiagramBuilt (levelsOf cs ds) a (take (k * 4) t) t′ n → Tabled (constraintOf cs ds a) D (to 0) (t′ ++ drop (k * 4) t) n
-  tabled-node t t′ k n e W =
+  pub tabled-node : (a : ℕ) (t t′ : List ℕ) (k n : ℕ) → k ≡ capacity (length t) → DiagramBuilt (levelsOf cs ds) a (take (k * 4) t) t′ n
+      → Tabled (constraintOf cs ds (pos a)) D (to 0) (t′ ++ drop (k * 4) t) n
+  tabled-node a t t′ k n e W =
       let l = W .flat .long in
       let m = W .flat .room in
       record {
@@ -59,7 +67,7 @@ module _ (cs ds : List ℕ) (a D : ℕ) (is : D ≡ orders (levelsOf cs ds)) whe
       }
 
 -- of the table and the clause buffer an answer depends on the lengths alone
-pub same-answer : (cs ds : List ℕ) (a : ℕ) (t u e w v t′ e′ w′ : List ℕ) (r : Encoded) → length u ≡ length t → length v ≡ length w → Answered (constraintOf cs ds a) u e v t′ e′ w′ r
+pub same-answer : (cs ds : List ℕ) (a : ℤ) (t u e w v t′ e′ w′ : List ℕ) (r : Encoded) → length u ≡ length t → length v ≡ length w → Answered (constraintOf cs ds a) u e v t′ e′ w′ r
     → Answered (constraintOf cs ds a) t e w t′ e′ w′ r
 same-answer cs ds a t u e w v t′ e′ w′ r l m A =
     record {
@@ -71,8 +79,12 @@ same-answer cs ds a t u e w v t′ e′ w′ r l m A =
 
 -- more nodes than the capacity
 pub full-answer : (cs ds : List ℕ) (a k : ℕ) (t u e w v t′ e′ w′ : List ℕ) (r : Encoded) → k ≡ capacity (length t) → length (take (k * 4) t) / 4 < length (table (levelsOf cs ds) (pos a)) → length u ≡ length t
-    → length v ≡ length w → Cleared TooManyNodes u e v t′ e′ w′ r → Answered (constraintOf cs ds a) t e w t′ e′ w′ r
+    → length v ≡ length w → Cleared TooManyNodes u e v t′ e′ w′ r → Answered (constraintOf cs ds (pos a)) t e w t′ e′ w′ r
 full-answer cs ds a k t u e w v t′ e′ w′ r q h l m C =
-    same-answer cs ds a t u e w v t′ e′ w′ r l m
-    (refused-answer (constraintOf cs ds a) TooManyNodes u e v t′ e′ w′ r
-    (refuse-6 (constraintOf cs ds a) (length u) (length e) (length v) (omega (arith, length-take (k * 4) t))) C)
+    same-answer cs ds (pos a) t u e w v t′ e′ w′ r l m
+    (refused-answer (constraintOf cs ds (pos a)) TooManyNodes u e v t′ e′ w′ r
+    (refuse-6 (constraintOf cs ds (pos a)) (length u) (length e) (length v) (omega (arith, length-take (k * 4) t))) C)
+
+-- the answer for a bound by another name
+pub renamed : (cs ds : List ℕ) {a b : ℤ} (t e w t′ e′ w′ : List ℕ) (r : Encoded) → a ≡ b → Answered (constraintOf cs ds b) t e w t′ e′ w′ r → Answered (constraintOf cs ds a) t e w t′ e′ w′ r
+renamed cs ds t e w t′ e′ w′ r is A = subst (λ (z : ℤ). Answered (constraintOf cs ds z) t e w t′ e′ w′ r) (sym is) A

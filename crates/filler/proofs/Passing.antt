@@ -3,7 +3,7 @@ use mathlib.Core.Path.{_≡_, refl, sym, ap, subst, _∙_}
 use mathlib.Core.List.{List, [], _∷_, map}
 use Prim.Native.Nat.{ℕ, _*_, _-_, _≤_}
 use native.Mathlib.Omega.{arith}
-use lib.IntN.{pos}
+use lib.IntN.{ℤ}
 use lib.ListN.{length, take}
 use Rattle.diagram.specs.Constraint.{mostOrders}
 use Rattle.word.specs.Edge.{Edge}
@@ -37,24 +37,24 @@ doms [] (d ∷ ds) e = absurd (omega arith)
 doms (c ∷ cs) [] e = absurd (omega arith)
 doms (c ∷ cs) (d ∷ ds) e = ap (λ (xs : List ℕ). d ∷ xs) (doms cs ds (omega arith))
 
-module _ (cs ds rs : List ℕ) (L : Lent cs ds rs) (a : ℕ) where
+module _ (cs ds rs : List ℕ) (L : Lent cs ds rs) (a : ℤ) where
   abbrev ls : List Level
   ls = levelsOf cs ds
 
   abbrev ns : List Node
-  ns = table ls (pos a)
+  ns = table ls a
 
   abbrev top : Edge
-  top = root ls (pos a)
+  top = root ls a
 
-  R : Right ls (pos a) ns top
-  R = table-right ls (pos a) (levels-good cs ds rs L)
+  R : Right ls a ns top
+  R = table-right ls a (levels-good cs ds rs L)
 
   edges-length : length (edgeWords ns) ≡ edgeCount ls ns
-  edges-length = edges-count ls ns (right-filled ls (pos a) ns top R)
+  edges-length = edges-count ls ns (right-filled ls a ns top R)
 
   words-length : length (clauseWords ls top ns) ≡ wordCount ls ns
-  words-length = words-count ls top ns (right-filled ls (pos a) ns top R)
+  words-length = words-count ls top ns (right-filled ls a ns top R)
 
   orders-small : orders ls ≤ mostOrders
   orders-small = omega (arith, orders-le (termsOf cs ds) (L .limited), levels-length (termsOf cs ds), levels-count cs ds rs L, L .few)

@@ -2,7 +2,7 @@
 use mathlib.Core.Path.{_≡_}
 use mathlib.Core.List.{List, map}
 use Prim.Native.Nat.{ℕ, _+_, _*_, _-_, _≤_}
-use lib.IntN.{pos}
+use lib.IntN.{ℤ}
 use lib.ListN.{length}
 use Rattle.word.specs.Edge.{Edge}
 use Rattle.word.specs.Padded.{padded}
@@ -31,8 +31,8 @@ abbrev pub clausesFor : Constraint → List ℕ
 clausesFor c = clauseWords (levelsIn c) (rootFor c) (nodesFor c)
 
 -- The constraint of two slices and a bound.
-abbrev pub constraintOf : List ℕ → List ℕ → ℕ → Constraint
-constraintOf cs ds a = record { bound = pos a; terms = termsOf cs ds }
+abbrev pub constraintOf : List ℕ → List ℕ → ℤ → Constraint
+constraintOf cs ds a = record { bound = a; terms = termsOf cs ds }
 
 -- The counts of records by the sum of domain ends over them: every node has an edge more than its level's domain end.
 abbrev pub countsBy : List ℕ → ℕ → List Record → ℕ → Counts

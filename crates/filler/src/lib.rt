@@ -3,6 +3,7 @@ use word::Child;
 use word::RECORD;
 ghost use mathlib.Core.Path.{_≡_};
 ghost use Prim.Native.Nat.{ℕ, _+_, _≤_};
+ghost use lib.IntN.{ℤ};
 ghost use lib.ListN.{length};
 ghost use Rattle.word.specs.Edge.{edgeOf};
 ghost use Rattle.constraint.specs.Lent.{Lent};
@@ -30,8 +31,8 @@ pub fn fill<'a>(
     clauses: &mut [u32],
 )
     requires { ⌜ Lent (now coefs) (now ends) (now rests) ⌝ }
-    requires { ⌜ ((a : ℕ) × Tabled (constraintOf (now coefs) (now ends) a) orders (edgeOf root) (now table) (counts .nodes) × Roomy (constraintOf (now coefs) (now ends) a) counts (now edges) (now clauses)) ⌝ }
-    ensures { λ _. ⌜ ((a : ℕ) → Tabled (constraintOf (now (coefs .entry)) (now (ends .entry)) a) orders (edgeOf root) (now (table .entry)) (counts .nodes) → Roomy (constraintOf (now (coefs .entry)) (now (ends .entry)) a) counts (now (edges .entry)) (now (clauses .entry))
+    requires { ⌜ ((a : ℤ) × Tabled (constraintOf (now coefs) (now ends) a) orders (edgeOf root) (now table) (counts .nodes) × Roomy (constraintOf (now coefs) (now ends) a) counts (now edges) (now clauses)) ⌝ }
+    ensures { λ _. ⌜ ((a : ℤ) → Tabled (constraintOf (now (coefs .entry)) (now (ends .entry)) a) orders (edgeOf root) (now (table .entry)) (counts .nodes) → Roomy (constraintOf (now (coefs .entry)) (now (ends .entry)) a) counts (now (edges .entry)) (now (clauses .entry))
         → Filled (constraintOf (now (coefs .entry)) (now (ends .entry)) a) (now (table .entry)) (now (edges .entry)) (now (clauses .entry)) (now (table .exit)) (now (edges .exit)) (now (clauses .exit))) ⌝ }
 {
     let nodes = counts.nodes;

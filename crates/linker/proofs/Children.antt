@@ -93,9 +93,9 @@ module _ (cs ds rs : List ℕ) (L : Lent cs ds rs) where
   small : (i : ℕ) → R (drop i (levelsOf cs ds)) < 4294967296
   small i = omega (arith, rest-small cs ds rs L i)
 
-  module _ (a : ℕ) where
-    W : Whole (levelsOf cs ds) (pos a) (slicedNodes cs ds a) (root (levelsOf cs ds) (pos a)) (length (slicedNodes cs ds a))
-    W = whole (levelsOf cs ds) (pos a) (levels-good cs ds rs L)
+  module _ (a : ℤ) where
+    W : Whole (levelsOf cs ds) a (slicedNodes cs ds a) (root (levelsOf cs ds) a) (length (slicedNodes cs ds a))
+    W = whole (levelsOf cs ds) a (levels-good cs ds rs L)
 
     children-count : (n i : ℕ) → i < length cs → OfLevel (slicedNodes cs ds a) i n → length (nodeAt (slicedNodes cs ds a) n .children) ≡ suc (getD ds i 0)
     children-count n i h o = W .parent n i o .0 ∙ ap suc (dom-at cs ds rs L i h)
@@ -112,7 +112,7 @@ module _ (cs ds rs : List ℕ) (L : Lent cs ds rs) where
         ext-getD 0 (row f (getD ds i 0)) (map edgeWord (x .children)) (row-length f (getD ds i 0) ∙ sym count ∙ sym (length-map (x .children) edgeWord))
         (λ j k. let v : j ≤ getD ds i 0 = omega (arith, row-length f (getD ds i 0)) in
         row-at f (getD ds i 0) j 0 v
-        ∙ ap edgeWord (leads-is ls (pos a) (levels-good cs ds rs L) small (suc i) (i + 2) (getD rs (i + 1) 0) (omega arith) (top i h)
+        ∙ ap edgeWord (leads-is ls a (levels-good cs ds rs L) small (suc i) (i + 2) (getD rs (i + 1) 0) (omega arith) (top i h)
         (subℕ (x .lab .lower) (getD cs i 0 * j)) (getD (x .children) j F) (leads j v))
         ∙ sym (map-at edgeWord (x .children) j 0 F (omega arith)))
       where
@@ -124,7 +124,7 @@ module _ (cs ds rs : List ℕ) (L : Lent cs ds rs) where
         leads j v =
             let x = nodeAt (slicedNodes cs ds a) n in
             subst (λ (o : ℕ). Leads (levelsOf cs ds) (slicedNodes cs ds a) (suc i) (getD (x .children) j F) (subℕ (x .lab .lower) o)) (off-at cs ds rs L i j h)
-            (W .parent n i o .1 j (omega (arith, dom-at cs ds rs L i h)) (pos (x .lab .lower)) (le-refl (x .lab .lower), label-ends (levelsOf cs ds) (levels-good cs ds rs L) (pos a) n i o .0))
+            (W .parent n i o .1 j (omega (arith, dom-at cs ds rs L i h)) (pos (x .lab .lower)) (le-refl (x .lab .lower), label-ends (levelsOf cs ds) (levels-good cs ds rs L) a n i o .0))
 
     module _ (t : List ℕ) (count : ℕ) (es : List ℕ) (done : Finished cs ds a t count es) where
       counted : count ≡ length (slicedNodes cs ds a)
@@ -137,7 +137,7 @@ module _ (cs ds rs : List ℕ) (L : Lent cs ds rs) where
       pub ready : Linkable ds t count es
       ready = record {
         countable = table-countable cs ds rs L 0 a t count (done .few) (done .room) (done .records);
-        sorted = rw (done .records) (table-sorted (levelsOf cs ds) (levels-good cs ds rs L) (pos a) small);
+        sorted = rw (done .records) (table-sorted (levelsOf cs ds) (levels-good cs ds rs L) a small);
         wide = omega (arith, sum-is, done .wide);
       }
 

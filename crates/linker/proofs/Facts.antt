@@ -4,6 +4,7 @@ use mathlib.Core.Path.{_≡_, sym, _∙_}
 use mathlib.Core.List.{List}
 use Prim.Native.Nat.{ℕ, suc, _+_, _*_, _-_, _≤_, _<_}
 use native.Mathlib.Omega.{arith}
+use lib.IntN.{ℤ}
 use lib.ListN.{length, getD, set}
 use Rattle.word.specs.Record.{used, mostNodes}
 use Rattle.diagram.specs.Constraint.{mostTerms, lastEnd, lastCoefficient}
@@ -29,7 +30,7 @@ pub record Facts (cs ds rs : List ℕ) (count : ℕ) (t es : List ℕ) (first k 
   pub fits : first + (getD ds (getD t (k * 4) 0 - 1) 0 + 1) ≤ length es
   pub sorted : Sorted (used (set t (k * 4 + 3) first) count)
 
-pub facts : {cs ds rs t₀ es₀ : List ℕ} {count : ℕ} {t es : List ℕ} {first k : ℕ} → Lent cs ds rs → (a : ℕ) × Finished cs ds a t₀ count es₀
+pub facts : {cs ds rs t₀ es₀ : List ℕ} {count : ℕ} {t es : List ℕ} {first k : ℕ} → Lent cs ds rs → (a : ℤ) × Finished cs ds a t₀ count es₀
     → Turn cs ds rs t₀ es₀ count t es first k → k < count → Facts cs ds rs count t es first k
 facts {cs} {ds} {rs} {t₀} {es₀} {count} {t} {es} {first} {k} L p so h =
     let r = ready cs ds rs L (p .0) t₀ count es₀ (p .1) in

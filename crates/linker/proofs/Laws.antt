@@ -4,7 +4,7 @@ use mathlib.Core.Path.{_≡_, refl, sym, ap, _∙_}
 use mathlib.Core.List.{List, [], _∷_, map}
 use Prim.Native.Nat.{ℕ, zero, suc, _+_, _*_, _-_, _≤_, _<_}
 use native.Mathlib.Omega.{arith}
-use lib.IntN.{pos}
+use lib.IntN.{ℤ}
 use lib.ListN.{length, getD, length-map}
 use Rattle.word.specs.Record.{Record, noRecord, used, mostNodes}
 use Rattle.diagram.specs.Table.{Node, noNode}
@@ -49,13 +49,13 @@ module _ (cs ds rs : List ℕ) (L : Lent cs ds rs) where
   ends-fit i h = term-at cs ds rs L i (omega (arith, L .ends)) .1
 
   -- a node's level is one of the slices'
-  pub slice-level : (a n : ℕ) → n < length (slicedNodes cs ds a) → (i : ℕ) × (i < length cs) × OfLevel (slicedNodes cs ds a) i n × (nodeAt (slicedNodes cs ds a) n .level - 1 ≡ i)
+  pub slice-level : (a : ℤ) (n : ℕ) → n < length (slicedNodes cs ds a) → (i : ℕ) × (i < length cs) × OfLevel (slicedNodes cs ds a) i n × (nodeAt (slicedNodes cs ds a) n .level - 1 ≡ i)
   slice-level a n h =
-      let x = whole (levelsOf cs ds) (pos a) (levels-good cs ds rs L) .levelled n h in
+      let x = whole (levelsOf cs ds) a (levels-good cs ds rs L) .levelled n h in
       (x .0, omega (arith, x .1, levels-count cs ds rs L), x .2, omega (arith, x .2 .1))
 
   -- THE LEVELS of the table's records
-  table-levelled : (f a : ℕ) → Levelled (length ds) (map (recordOf f) (slicedNodes cs ds a))
+  table-levelled : (f : ℕ) (a : ℤ) → Levelled (length ds) (map (recordOf f) (slicedNodes cs ds a))
   table-levelled f a k h =
       let ns = slicedNodes cs ds a in
       let l : k < length ns = omega (arith, length-map ns (recordOf f)) in
@@ -63,7 +63,7 @@ module _ (cs ds rs : List ℕ) (L : Lent cs ds rs) where
       rw (map-at (recordOf f) ns k noRecord noNode l) (omega (arith, x .2 .1), omega (arith, x .2 .1, x .1, L .ends))
 
   -- THE SUM OVER THE TABLE may be taken
-  pub table-countable : (f a : ℕ) (t : List ℕ) (count : ℕ) → count ≤ mostNodes → count * 4 ≤ length t → used t count ≡ map (recordOf f) (slicedNodes cs ds a) → Countable ds t count
+  pub table-countable : (f : ℕ) (a : ℤ) (t : List ℕ) (count : ℕ) → count ≤ mostNodes → count * 4 ≤ length t → used t count ≡ map (recordOf f) (slicedNodes cs ds a) → Countable ds t count
   table-countable f a t count h k e = record { few = h; room = k; ends = ends-fit; levels = rw e (table-levelled f a) }
 
   count-edges : (f : ℕ) (ns : List Node) → edgeCount (levelsOf cs ds) ns ≡ length ns + endSum ds (map (recordOf f) ns)

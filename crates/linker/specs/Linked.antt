@@ -3,7 +3,7 @@
 use mathlib.Core.Path.{_≡_}
 use mathlib.Core.List.{List, map}
 use Prim.Native.Nat.{ℕ, _*_, _≤_}
-use lib.IntN.{pos}
+use lib.IntN.{ℤ}
 use lib.ListN.{length, take, drop}
 use Rattle.word.specs.Record.{mostNodes, used}
 use Rattle.diagram.specs.Table.{Node, table}
@@ -11,11 +11,11 @@ use Rattle.diagram.specs.Flat.{recordOf, recordsFrom, edgeWords, edgeCount}
 use Rattle.constraint.specs.Lent.{levelsOf}
 
 -- The nodes of the constraint of two slices with the bound a.
-abbrev pub slicedNodes : List ℕ → List ℕ → ℕ → List Node
-slicedNodes cs ds a = table (levelsOf cs ds) (pos a)
+abbrev pub slicedNodes : List ℕ → List ℕ → ℤ → List Node
+slicedNodes cs ds a = table (levelsOf cs ds) a
 
 -- The first `count` records are the table's nodes, in order, and the edges have room.
-pub record Finished (cs ds : List ℕ) (a : ℕ) (t : List ℕ) (count : ℕ) (es : List ℕ) : Type 0 where
+pub record Finished (cs ds : List ℕ) (a : ℤ) (t : List ℕ) (count : ℕ) (es : List ℕ) : Type 0 where
   pub few : count ≤ mostNodes
   pub room : count * 4 ≤ length t
   pub records : used t count ≡ map (recordOf 0) (slicedNodes cs ds a)
@@ -23,7 +23,7 @@ pub record Finished (cs ds : List ℕ) (a : ℕ) (t : List ℕ) (count : ℕ) (e
 
 -- The table t and the edges es have become t′ and es′: the records have their places, and the edge list stands at the front of the edges. Behind the records
 -- and behind the edge list all words are as they were, and both lists are as long as before, so each word of them is told.
-pub record Linked (cs ds : List ℕ) (a : ℕ) (t : List ℕ) (count : ℕ) (es t′ es′ : List ℕ) : Type 0 where
+pub record Linked (cs ds : List ℕ) (a : ℤ) (t : List ℕ) (count : ℕ) (es t′ es′ : List ℕ) : Type 0 where
   pub records : used t′ count ≡ recordsFrom 0 (slicedNodes cs ds a)
   pub edges : take (edgeCount (levelsOf cs ds) (slicedNodes cs ds a)) es′ ≡ edgeWords (slicedNodes cs ds a)
   pub table-rest : drop (count * 4) t′ ≡ drop (count * 4) t

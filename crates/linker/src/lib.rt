@@ -6,7 +6,7 @@ use word::RECORD;
 use word::Remainder;
 ghost use mathlib.Core.Path.{_≡_};
 ghost use Prim.Native.Nat.{ℕ, _+_, _*_, _≤_};
-ghost use lib.IntN.{subℕ};
+ghost use lib.IntN.{ℤ, subℕ};
 ghost use lib.ListN.{length};
 ghost use lib.Seq.{paste};
 ghost use Rattle.word.specs.Record.{mostNodes, used};
@@ -103,8 +103,8 @@ pub fn link<'a>(
     edges: &mut [u32],
 )
     requires { ⌜ Lent (now coefs) (now ends) (now rests) ⌝ }
-    requires { ⌜ ((a : ℕ) × Finished (now coefs) (now ends) a (now table) count (now edges)) ⌝ }
-    ensures { λ _. ⌜ ((a : ℕ) → Finished (now (coefs .entry)) (now (ends .entry)) a (now (table .entry)) count (now (edges .entry))
+    requires { ⌜ ((a : ℤ) × Finished (now coefs) (now ends) a (now table) count (now edges)) ⌝ }
+    ensures { λ _. ⌜ ((a : ℤ) → Finished (now (coefs .entry)) (now (ends .entry)) a (now (table .entry)) count (now (edges .entry))
         → Linked (now (coefs .entry)) (now (ends .entry)) a (now (table .entry)) count (now (edges .entry)) (now (table .exit)) (now (edges .exit))) ⌝ }
 {
     let mut cursors = [0usize; VALUES];

@@ -6,31 +6,33 @@ use mathlib.Core.List.{List, [], _∷_, _++_, map}
 use mathlib.Core.Bool.{Bool, true, false, cond}
 use Prim.Native.Nat.{ℕ, suc, _+_, _*_, _%_, _≤_, _<_}
 use native.Mathlib.Omega.{arith}
-use lib.Dec.{ltb, leb, eqb}
+use lib.Dec.{ltb, eqb}
 use lib.ListN.{length, getD, take, drop, length-append, length-map}
 use lib.Seq.{take-all}
 use borrow.Author.Tests.{ltb-false}
 use Rattle.word.specs.Record.{mostNodes}
-use Rattle.word.specs.Word.{kind, domainEnd, coefficient, lastBoolean}
+use Rattle.word.specs.Word.{lastBoolean}
 use Rattle.word.specs.Edge.{Edge, F, T, to, edgeWord}
 use Rattle.text.specs.Decimal.{decimal}
-use Rattle.refusal.specs.Table.{numberOf, placeOf, andThen, unless, unlessRefused}
+use Rattle.refusal.specs.Table.{numberOf, placeOf, unlessRefused}
 use Rattle.refusal.specs.declared.Refusal.{Refusal}
-use Rattle.refusal.specs.declared.Refusal.the-variants.{NoWords, WrongKind, TermCount, DomainEnd, ZeroCoefficient, TooManyNodes, TooManyEdges, TooManyWords, TooManyBooleans, ValueByte, ClauseWord, UnknownBoolean, LiteralCount, OpenClause, NoRoom, NotDimacs}
+use Rattle.refusal.specs.declared.Refusal.the-variants.{NoWords, WrongKind, TermCount, DomainEnd, ZeroCoefficient, TooManyNodes, TooManyEdges, TooManyWords, TooManyBooleans, ValueByte, ClauseWord, UnknownBoolean, LiteralCount, OpenClause, NoRoom, NotDimacs, WrongRelation, LowerEnd}
 use Rattle.refusal.specs.declared.Checked.{Checked}
 use Rattle.refusal.specs.declared.Checked.the-variants as check
 use Rattle.diagram.specs.Table.{Node}
 use Rattle.diagram.specs.Claim.{nodeAt}
 use Rattle.diagram.specs.Flat.{edgeWords, edgeCount, Small}
-use Rattle.diagram.specs.Constraint.{Constraint, Within, mostTerms, lastEnd}
+use Rattle.diagram.specs.Constraint.{Constraint, Within}
 use Rattle.diagram.proofs.Terms.{levels-ascend, levels-length}
 use Rattle.diagram.proofs.Drawn.{table-right}
 use Rattle.encoding.specs.Boolean.{orders}
 use Rattle.encoding.specs.Pattern.{wordCount}
 use Rattle.encoding.proofs.Fits.{own-level}
 use Rattle.builder.proofs.Diagram.{label-ends}
-use Rattle.constraint.specs.Reading.{eachFrom, kindChecked, termChecked, countChecked, upTo, checked, stated}
-use Rattle.constraint.proofs.Laws.{checked-within, rest-fits}
+use Rattle.constraint_words.specs.Reading.{checked, stated}
+use Rattle.constraint_words.proofs.Laws.{checked-within}
+use Rattle.constraint_words.proofs.Refusals.{Said, placed-within}
+use Rattle.constraint.proofs.Laws.{rest-fits}
 use Rattle.filler.specs.declared.Counts.{Counts}
 use Rattle.encoder_levels.specs.declared.Encoded.{Encoded}
 use Rattle.encoder_levels.specs.declared.Encoded.the-variants.{Accepted, Refused}
@@ -124,7 +126,7 @@ counts-few n h k l =
       eight (n .words) l,
     )
 
-number-few : (x : Refusal) → numberOf x ≤ 16
+number-few : (x : Refusal) → numberOf x ≤ 18
 number-few NoWords = omega arith
 number-few (WrongKind at) = omega arith
 number-few (TermCount at) = omega arith
@@ -141,6 +143,8 @@ number-few (LiteralCount at) = omega arith
 number-few (OpenClause at) = omega arith
 number-few NoRoom = omega arith
 number-few (NotDimacs at) = omega arith
+number-few (WrongRelation at) = omega arith
+number-few (LowerEnd at) = omega arith
 
 refusal-few : (x : Refusal) → placeOf x < 100000000 → length (refusalLine x) ≤ 29
 refusal-few x h =
@@ -151,46 +155,6 @@ refusal-few x h =
       eight (numberOf x) (omega (arith, number-few x)),
       eight (placeOf x) h,
     )
-
--- ---- Places
-
--- a refusal's place is at most n
-abbrev At : ℕ → Checked → Type 0
-At n check.Passed = Unit {0}
-At n (check.Refused x) = placeOf x ≤ n
-
-at-then : (n : ℕ) (p q : Checked) → At n p → At n q → At n (andThen p q)
-at-then n check.Passed q h k = k
-at-then n (check.Refused x) q h k = h
-
-at-unless : (n : ℕ) (b : Bool) (x : Refusal) → placeOf x ≤ n → At n (unless b x)
-at-unless n true x h = tt
-at-unless n false x h = h
-
-at-each : (f : ℕ → ℕ → Checked) (n i : ℕ) (ws : List ℕ) → ((j w : ℕ) → j ≤ n → At n (f j w)) → i + length ws ≤ n → At n (eachFrom f i ws)
-unfolding eachFrom
-at-each f n i [] each h = tt
-at-each f n i (w ∷ ws) each h = at-then n (f i w) (eachFrom f (suc i) ws) (each i w (omega arith)) (at-each f n (suc i) ws each (omega arith))
-
-at-kind : (n j w : ℕ) → j ≤ n → At n (kindChecked j w)
-at-kind n j w h = at-unless n (eqb (kind w) 1) (WrongKind j) h
-
-at-term : (n j w : ℕ) → j ≤ n → At n (termChecked j w)
-at-term n j w h =
-    at-then n (unless (upTo lastEnd (domainEnd w)) (DomainEnd j)) (unless (leb 1 (coefficient w)) (ZeroCoefficient j))
-    (at-unless n (upTo lastEnd (domainEnd w)) (DomainEnd j) h) (at-unless n (leb 1 (coefficient w)) (ZeroCoefficient j) h)
-
-at-checked : (ws : List ℕ) → At (length ws) (checked ws)
-unfolding checked
-at-checked [] = omega arith
-at-checked (w ∷ ws) =
-    let n : ℕ = suc (length ws) in
-    let terms : At n (eachFrom termChecked 1 ws) = at-each termChecked n 1 ws (at-term n) (omega arith) in
-    let kinds : At n (eachFrom kindChecked 1 ws) = at-each kindChecked n 1 ws (at-kind n) (omega arith) in
-    at-then n (unless (eqb (kind w) 0) (WrongKind 0)) (andThen (eachFrom kindChecked 1 ws) (andThen (countChecked (length ws)) (eachFrom termChecked 1 ws)))
-    (at-unless n (eqb (kind w) 0) (WrongKind 0) (omega arith))
-    (at-then n (eachFrom kindChecked 1 ws) (andThen (countChecked (length ws)) (eachFrom termChecked 1 ws)) kinds
-    (at-then n (countChecked (length ws)) (eachFrom termChecked 1 ws) (at-unless n (upTo mostTerms (length ws)) (TermCount n) (omega arith)) terms))
 
 -- ---- The reply
 
@@ -255,7 +219,7 @@ accepted-fit Clauses c within m s =
 
 words-fit : (f : Form) (ws : List ℕ) → length ws ≤ mostWords → length (wordsText f ws roomTable roomEdges roomClauses) ≤ most f
 unfolding encoded
-words-fit f ws h = go (checked ws) refl (at-checked ws)
+words-fit f ws h = go (checked ws) refl (placed-within ws)
   where
     line : (g : Form) (x : Refusal) → placeOf x ≤ mostWords → length (refusalLine x) ≤ most g
     line Diagram x k = omega (arith, refusal-few x (omega arith))
@@ -265,7 +229,7 @@ words-fit f ws h = go (checked ws) refl (at-checked ws)
     reply (Refused x) p s = line f x s
     reply (Accepted m) p s = accepted-fit f (stated ws) (checked-within ws p) m s
 
-    go : (k : Checked) → checked ws ≡ k → At (length ws) k
+    go : (k : Checked) → checked ws ≡ k → Said (λ x. placeOf x ≤ length ws) k
         → length (replyText f (unlessRefused Refused k (countsWithin (stated ws) roomTable roomEdges roomClauses)) (nodesFor (stated ws)) (clausesFor (stated ws))) ≤ most f
     go check.Passed e a = reply (countsWithin (stated ws) roomTable roomEdges roomClauses) e (sized-counted (stated ws) mostWords roomTable roomEdges roomClauses)
     go (check.Refused x) e a = line f x (omega arith)

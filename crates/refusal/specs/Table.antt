@@ -1,10 +1,11 @@
 -- THE REFUSAL TABLE of document 01, and of document 02 from 15 on: the number and the place of each row. Assumes nothing.
 use Prim.Native.Nat.{ℕ}
-use mathlib.Core.Bool.{Bool, true, false}
+use mathlib.Core.Bool.{Bool, true, false, _&&_, _||_}
+use lib.Dec.{leb}
 use Rattle.refusal.specs.declared.Refusal.{Refusal}
 use Rattle.refusal.specs.declared.Checked.{Checked}
 use Rattle.refusal.specs.declared.Checked.the-variants.{Passed, Refused}
-use Rattle.refusal.specs.declared.Refusal.the-variants.{NoWords, WrongKind, TermCount, DomainEnd, ZeroCoefficient, TooManyNodes, TooManyEdges, TooManyWords, TooManyBooleans, ValueByte, ClauseWord, UnknownBoolean, LiteralCount, OpenClause, NoRoom, NotDimacs}
+use Rattle.refusal.specs.declared.Refusal.the-variants.{NoWords, WrongKind, TermCount, DomainEnd, ZeroCoefficient, TooManyNodes, TooManyEdges, TooManyWords, TooManyBooleans, ValueByte, ClauseWord, UnknownBoolean, LiteralCount, OpenClause, NoRoom, NotDimacs, WrongRelation, LowerEnd}
 
 abbrev pub numberOf : Refusal → ℕ
 numberOf NoWords = 1
@@ -23,6 +24,8 @@ numberOf (LiteralCount at) = 13
 numberOf (OpenClause at) = 14
 numberOf NoRoom = 15
 numberOf (NotDimacs at) = 16
+numberOf (WrongRelation at) = 17
+numberOf (LowerEnd at) = 18
 
 abbrev pub placeOf : Refusal → ℕ
 placeOf NoWords = 0
@@ -41,6 +44,12 @@ placeOf (LiteralCount at) = at
 placeOf (OpenClause at) = at
 placeOf NoRoom = 0
 placeOf (NotDimacs at) = at
+placeOf (WrongRelation at) = at
+placeOf (LowerEnd at) = at
+
+-- The refusals that constraint words alone decide, by their numbers: 1 to 5, and 17 and 18. They leave lent memory untouched.
+abbrev pub ofWords : ℕ → Bool
+ofWords n = leb n 5 || (leb 17 n && leb n 18)
 
 -- THE VALUES OF A CHECK'S ANSWER: number and place of the refusal, 0 and 0 where there is none.
 pub record CheckedValues : Type 0 where

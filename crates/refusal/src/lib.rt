@@ -20,6 +20,8 @@ pub enum Refusal {
     OpenClause(usize),
     NoRoom,
     NotDimacs(usize),
+    WrongRelation(usize),
+    LowerEnd(usize),
 }
 
 // What a check finds: nothing to refuse, or the first refusal.
@@ -50,6 +52,8 @@ impl Refusal {
             Refusal::OpenClause(_) => 14,
             Refusal::NoRoom => 15,
             Refusal::NotDimacs(_) => 16,
+            Refusal::WrongRelation(_) => 17,
+            Refusal::LowerEnd(_) => 18,
         }
     }
 
@@ -68,6 +72,8 @@ impl Refusal {
             Refusal::LiteralCount(at) => at,
             Refusal::OpenClause(at) => at,
             Refusal::NotDimacs(at) => at,
+            Refusal::WrongRelation(at) => at,
+            Refusal::LowerEnd(at) => at,
             Refusal::NoWords => 0,
             Refusal::TooManyNodes => 0,
             Refusal::TooManyEdges => 0,

@@ -11,7 +11,7 @@ use Rattle.diagram.specs.Table.{insert, place, addKey, addRow, keysBelow, rootK
 use Rattle.diagram.specs.Flat.{recordsFrom, tableWords, edgeWords, edgeCount}
 use Rattle.diagram.specs.Constraint.{Constraint}
 use Rattle.encoding.specs.Pattern.{orderWords, nodeWords}
-use Rattle.constraint.specs.Reading.{eachFrom, checked, stated}
+use Rattle.constraint_words.specs.Reading.{eachFrom, placedFrom, termsFrom, checked, asWritten, stated}
 use Rattle.filler.specs.Filled.{nodesFor, clausesFor}
 use Rattle.encoder_levels.specs.declared.Encoded.{Encoded}
 use Rattle.encoder_levels.specs.Reply.{EncodedValues, encodedValues, countsWithin}
@@ -111,5 +111,5 @@ exercises =
 
 -- THE ONE FACT: the definitions give every row.
 pub marked : map given exercises ≡ exercises
-unfolding overlap labelOf insert place addKey addRow keysBelow rootKeys edgeTo row nodeOfKey nodesFrom table root recordsFrom flat edgeWords edgeCount orderWords nodeWords eachFrom checked stated countsWithin encoded exercises
+unfolding overlap labelOf insert place addKey addRow keysBelow rootKeys edgeTo row nodeOfKey nodesFrom table root recordsFrom flat edgeWords edgeCount orderWords nodeWords eachFrom placedFrom termsFrom checked asWritten stated countsWithin encoded exercises
 marked = refl

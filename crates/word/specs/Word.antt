@@ -3,26 +3,38 @@
 use mathlib.Core.Bool.{Bool, true, false}
 use Prim.Native.Nat.{ℕ, _+_, _*_, _/_, _%_}
 use lib.Dec.{leb}
+use lib.IntN.{ℤ, subℕ}
+
+-- How many payloads there are, and half of them.
+abbrev pub payloads : ℕ
+payloads = 0x40000000
+
+abbrev pub half : ℕ
+half = 0x20000000
 
 abbrev pub kind : ℕ → ℕ
-kind w = w / 0x40000000
+kind w = w / payloads
 
 abbrev pub payload : ℕ → ℕ
-payload w = w % 0x40000000
+payload w = w % payloads
 
--- A term (kind 1) has its domain end above its coefficient, which takes the low sixteen bits.
+-- A payload less half of them may be below 0: a LOWER END (kind 2) before a term, and the bound (kind 0) where a RELATION (kind 3) follows it.
+abbrev pub lessHalf : ℕ → ℤ
+lessHalf w = subℕ (payload w) half
+
+-- A term (kind 1): bit 29 says that its coefficient is negative, bits 28 to 16 are its domain end, and the low sixteen are the coefficient without its sign.
 abbrev pub domainEnd : ℕ → ℕ
-domainEnd w = payload w / 0x10000
+domainEnd w = w % half / 0x10000
 
 abbrev pub coefficient : ℕ → ℕ
 coefficient w = w % 0x10000
 
 -- A literal (kind 2): bit 29 says that it is negated, bits 28 to 0 are its Boolean.
 abbrev pub boolean : ℕ → ℕ
-boolean w = w % 0x20000000
+boolean w = w % half
 
 abbrev pub negated : ℕ → Bool
-negated w = leb 0x20000000 (payload w)
+negated w = leb half (payload w)
 
 -- The greatest Boolean that a literal can hold.
 abbrev pub lastBoolean : ℕ

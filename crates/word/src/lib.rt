@@ -2,7 +2,7 @@
 ghost use mathlib.Core.Path.{_≡_};
 ghost use mathlib.Core.Bool.{true, false};
 ghost use Prim.Native.Nat.{_+_, _≤_};
-ghost use Rattle.word.specs.Word.{kind, payload, domainEnd, boolean, negated, lastBoolean, literalWord, lastCount, endWord, ofBytes};
+ghost use Rattle.word.specs.Word.{kind, payload, domainEnd, coefficient, boolean, negated, lastBoolean, literalWord, lastCount, endWord, ofBytes};
 ghost use Rattle.word.specs.Padded.{cleared};
 ghost use Rattle.word.specs.Edge.{to, edgeWord, edgeIn, edgeBoolean, edgeOf};
 
@@ -31,6 +31,9 @@ pub const NODES: usize = 65536;
 // The greatest Boolean that a literal can hold.
 pub const LAST_BOOLEAN: u32 = 536870911;
 
+// Half of the payloads: what is taken from a payload that may say a number below 0.
+pub const HALF: u32 = 0x20000000;
+
 // The top two bits of a word.
 pub fn kind_of(w: u32) -> u32
     ensures { λ r. ⌜ r ≡ kind w ⌝ }
@@ -56,21 +59,28 @@ pub fn word_of(a: u8, b: u8, c: u8, d: u8) -> u32
 pub fn end_of(w: u32) -> u32
     ensures { λ r. ⌜ r ≡ domainEnd w ⌝ }
 {
-    payload_of(w) / 0x10000
+    w % HALF / 0x10000
+}
+
+// A term's coefficient without its sign.
+pub fn coefficient_of(w: u32) -> u32
+    ensures { λ r. ⌜ r ≡ coefficient w ⌝ }
+{
+    w % 0x10000
 }
 
 // A literal's Boolean.
 pub fn boolean_of(w: u32) -> Variable
     ensures { λ r. ⌜ r .0 ≡ boolean w ⌝ }
 {
-    Variable(w % 0x20000000)
+    Variable(w % HALF)
 }
 
-// Whether a literal is negated.
+// Whether a literal is negated, or a term's coefficient is negative.
 pub fn is_negated(w: u32) -> bool
     ensures { λ r. ⌜ r ≡ negated w ⌝ }
 {
-    0x20000000 <= payload_of(w)
+    HALF <= payload_of(w)
 }
 
 // The word of the literal that says that a Boolean is true.

@@ -2,9 +2,12 @@
 
 use crate::lent::{rubbish, Lent, SIDES};
 use archive::Encoded;
-use reference::constraint::Refusal;
 use reference::encode::{encode, Build, Counts};
 use reference::random::Random;
+use reference::refusal::Refusal;
+
+/// The refusals of the constraint words, which leave lent memory as it was.
+const OF_WORDS: [u64; 7] = [1, 2, 3, 4, 5, 17, 18];
 
 /// Ends the program with what differs.
 pub fn differ(what: &str, input: String) -> ! {
@@ -40,6 +43,9 @@ pub fn both(r: &mut Random, build: Build, words: &[u32], lengths: [usize; 3]) ->
     let mut after = before.clone();
     let [t, e, c] = &mut after;
     let reply = reply_of(encode(build, words, t, e, c));
+    if OF_WORDS.contains(&reply.number) && after != before {
+        differ("lent memory after refused words", hex(words));
+    }
     for side in SIDES {
         let lent = Lent::new(side, words);
         let mut lists = before.each_ref().map(|list| Lent::new(side, list));

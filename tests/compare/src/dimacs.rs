@@ -10,9 +10,9 @@ use crate::inputs::{damage_list, large};
 use crate::lent::{rubbish, Element, Lent, SIDES};
 use archive::Text;
 use reference::clauses::clauses;
-use reference::constraint::Refusal;
 use reference::maps;
 use reference::random::Random;
+use reference::refusal::Refusal;
 
 /// A call from one list into another: ours, the reference's, an element of rubbish, and how an input is shown.
 pub struct Call<I, T> {

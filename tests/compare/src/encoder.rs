@@ -1,25 +1,27 @@
 //! The encoder on random constraints: needs that just fit and just do not, and damaged words.
 
 use crate::call::both;
-use crate::inputs::{constraint, damage, large};
 use archive::Encoded;
 use reference::clauses::clauses;
 use reference::constraint::Constraint;
 use reference::encode::Build;
 use reference::random::Random;
+use reference::words::read;
 use reference::{maps, sums};
 
-/// How many calls gave each number, and the most nodes of an accepted one.
+/// How many calls gave each number, the most nodes of an accepted one, and how many constraints have the root F and the root T.
 pub struct Tally {
     pub constraints: u64,
     pub calls: u64,
-    pub numbers: [u64; 15],
+    pub numbers: [u64; 19],
     pub nodes: u64,
+    pub never: u64,
+    pub always: u64,
 }
 
 impl Tally {
     fn new(constraints: u64) -> Tally {
-        Tally { constraints, calls: 0, numbers: [0; 15], nodes: 0 }
+        Tally { constraints, calls: 0, numbers: [0; 19], nodes: 0, never: 0, always: 0 }
     }
 
     fn call(&mut self, reply: Encoded) {
@@ -27,13 +29,24 @@ impl Tally {
         self.numbers[reply.number as usize] += 1;
         self.nodes = self.nodes.max(reply.nodes);
     }
+
+    /// Counts the root of the words' constraint; gives what it needs.
+    fn needs(&mut self, words: &[u32]) -> [usize; 3] {
+        let c = read(words).unwrap().base();
+        self.never += (c.bound < 0) as u64;
+        self.always += (c.bound >= c.rest(0)) as u64;
+        needs(&c)
+    }
 }
 
 /// The lengths that a constraint needs for its table, edge list and clause list.
-fn needs(c: &Constraint) -> [usize; 3] {
+pub fn needs(c: &Constraint) -> [usize; 3] {
     let d = sums::build(c, 1 << 20).unwrap();
     [4 * d.nodes.len(), d.edges.len(), clauses(c, &d).len()]
 }
+
+/// Where the words of a round come from.
+pub type Source = fn(&mut Random) -> Vec<u32>;
 
 /// The exact needs, and one word less in each list.
 fn edge_lengths(needs: [usize; 3]) -> Vec<[usize; 3]> {
@@ -56,42 +69,59 @@ fn way(round: u64) -> Build {
 }
 
 /// Small constraints, with lists of the exact needs, one word less in each, more, nothing at all, and random lengths.
-pub fn valid(r: &mut Random, rounds: u64) -> Tally {
+pub fn valid(r: &mut Random, rounds: u64, source: Source) -> Tally {
     let mut tally = Tally::new(rounds);
     for round in 0..rounds {
-        let c = constraint(r);
-        let [t, e, w] = needs(&c);
+        let words = source(r);
+        let [t, e, w] = tally.needs(&words);
         let mut lengths = edge_lengths([t, e, w]);
         lengths.extend([[t + 7, e + 5, w + 9], [t + 3, e, w], [0, 0, 0], [0, e, w], [t, 0, w], [t, e, 0], [t, 0, 0], [0, e, 0], [0, 0, w]]);
         lengths.extend((0..2).map(|_| [t, e, w].map(|n| r.below(n as u64 + 3) as usize)));
         for l in lengths {
-            tally.call(both(r, way(round), &c.words(), l).reply);
+            tally.call(both(r, way(round), &words, l).reply);
         }
     }
     tally
 }
 
 /// Larger constraints, with lists of the exact needs, and one word less in each.
-pub fn larger(r: &mut Random, rounds: u64) -> Tally {
+pub fn larger(r: &mut Random, rounds: u64, source: Source) -> Tally {
     let mut tally = Tally::new(rounds);
     for round in 0..rounds {
-        let c = large(r);
-        for l in edge_lengths(needs(&c)) {
-            tally.call(both(r, way(round), &c.words(), l).reply);
+        let words = source(r);
+        for l in edge_lengths(tally.needs(&words)) {
+            tally.call(both(r, way(round), &words, l).reply);
         }
     }
     tally
 }
 
 /// Damaged words and small lists.
-pub fn damaged(r: &mut Random, rounds: u64) -> Tally {
+pub fn damaged(r: &mut Random, rounds: u64, source: Source) -> Tally {
     let mut tally = Tally::new(rounds);
     for round in 0..rounds {
-        let mut words = constraint(r).words();
-        damage(r, &mut words);
+        let words = source(r);
         let lengths = [r.below(120) as usize, r.below(200) as usize, r.below(800) as usize];
         tally.call(both(r, way(round), &words, lengths).reply);
         tally.call(both(r, way(round), &words, [0, 0, 0]).reply);
+    }
+    tally
+}
+
+/// Every list of up to `most` words behind a bound, each one of nine: a bound, four terms of which two are refused, two lower ends and two relations, one of each beyond
+/// its range.
+pub fn every(r: &mut Random, most: u32) -> Tally {
+    const WORDS: [u32; 9] = [0, 0x4001_0001, 0x6002_0001, 0x6010_0000, 0x4001_0000, 0xA000_0001, 0xA00F_4241, 0xC000_0003, 0xC000_0004];
+    let mut tally = Tally::new(0);
+    for length in 0..=most {
+        for number in 0..WORDS.len().pow(length) {
+            for bound in [0, 0x2000_0001] {
+                let later = (0..length).map(|k| WORDS[number / WORDS.len().pow(k) % WORDS.len()]);
+                let words: Vec<u32> = [bound].into_iter().chain(later).collect();
+                tally.constraints += 1;
+                tally.call(both(r, maps::build, &words, [24, 20, 90]).reply);
+            }
+        }
     }
     tally
 }

@@ -5,7 +5,8 @@ use reference::encode::Build;
 use reference::random::Random;
 use reference::{maps, sums};
 
-const ROOM: [usize; 3] = [4_096, 8_192, 16_384];
+/// Room enough for every exercise.
+pub const ROOM: [usize; 3] = [4_096, 8_192, 16_384];
 
 /// The words of terms (a, d) and a bound.
 pub fn words(terms: &[(u32, u32)], bound: u32) -> Vec<u32> {
@@ -13,14 +14,14 @@ pub fn words(terms: &[(u32, u32)], bound: u32) -> Vec<u32> {
 }
 
 /// Ends the program unless the fact holds.
-fn hold(fact: bool, name: &str, g: &Given) {
+pub fn hold(fact: bool, name: &str, g: &Given) {
     if !fact {
         differ(name, format!("{:?}\ntable {}\nclauses {}", g.reply, hex(&g.table[..64]), hex(&g.clauses[..64])));
     }
 }
 
 /// The labels in the table.
-fn labels(g: &Given) -> Vec<(u32, u32, u32)> {
+pub fn labels(g: &Given) -> Vec<(u32, u32, u32)> {
     g.table.chunks_exact(4).take(g.reply.nodes as usize).map(|r| (r[0], r[1], r[2])).collect()
 }
 

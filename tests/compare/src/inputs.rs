@@ -56,6 +56,13 @@ pub fn damage(r: &mut Random, words: &mut Vec<u32>) {
     }
 }
 
+/// The words of a small constraint, damaged.
+pub fn damaged(r: &mut Random) -> Vec<u32> {
+    let mut words = constraint(r).words();
+    damage(r, &mut words);
+    words
+}
+
 /// Changes one word or the end of the list.
 pub fn damage_list(r: &mut Random, words: &mut Vec<u32>, n: u64) {
     let at = r.below(words.len() as u64 + 1) as usize;

@@ -2,6 +2,7 @@
 //! Every list lent to the archive lies at an unreadable page: a call is made with the pages behind the last elements and again with the pages before the
 //! first ones, so that a read or write outside a list stops the program. The seed is fixed, so a difference, or a stop, can be met again.
 
+mod answers;
 mod call;
 mod capacity;
 mod comparer;
@@ -14,6 +15,8 @@ mod inputs;
 mod lent;
 mod program;
 mod show;
+mod signed;
+mod signs;
 mod tester;
 
 use reference::random::Random;
@@ -26,7 +29,9 @@ fn numbers(tally: &[u64]) -> String {
 
 /// A line on one kind of encoding call.
 fn report(name: &str, t: &encoder::Tally) {
-    println!("{name}: {}, calls: {} (by number, {}), most nodes: {}", t.constraints, t.calls, numbers(&t.numbers), t.nodes);
+    let counted = t.never + t.always > 0;
+    let roots = if counted { format!(", root F: {}, root T: {}", t.never, t.always) } else { String::new() };
+    println!("{name}: {}, calls: {} (by number, {}), most nodes: {}{roots}", t.constraints, t.calls, numbers(&t.numbers), t.nodes);
 }
 
 /// A line on one kind of call over DIMACS text.
@@ -68,8 +73,21 @@ fn text(r: &mut Random) {
     report_text("DIMACS texts of larger lists read", &dimacs::larger(r, 40));
     report_text("DIMACS texts read, every one of a small kind", &dimacs::every(r, 4));
     println!("places of DIMACS refusals, by their definition: {}", dimacs::places::defined(3));
-    let (shown, refused) = dimacs::program::program(r, 300);
+    let (shown, refused) = dimacs::program::program(r, 450);
     println!("DIMACS program: {shown} inputs (refused by number {})", numbers(&refused));
+}
+
+/// The encoder on random words: those of document 01 alone, then with relations, signs and lower ends.
+fn encoders(r: &mut Random) {
+    report("random constraints", &encoder::valid(r, 3_000, |r| inputs::constraint(r).words()));
+    report("larger constraints", &encoder::larger(r, 80, |r| inputs::large(r).words()));
+    report("damaged constraints", &encoder::damaged(r, 3_000, inputs::damaged));
+    report("random constraints with signs", &encoder::valid(r, 3_000, signed::small));
+    report("larger constraints with signs", &encoder::larger(r, 80, signed::large));
+    report("damaged constraints with signs", &encoder::damaged(r, 20_000, signed::damaged));
+    report("every list of up to five words out of nine behind a bound", &encoder::every(r, 5));
+    let answers::Tally { can, cannot } = answers::random(r, 4_000);
+    println!("values as a student writes them: {can} satisfy their constraint, {cannot} do not");
 }
 
 fn main() {
@@ -77,11 +95,11 @@ fn main() {
     let mut r = Random::new(1);
     println!("exercises P to ZZ: {}", exercises::rows(&mut r));
     println!("limits of the words: {}", exercises::limits(&mut r));
+    println!("request Five: {} refused or at a limit, {} drawn", signs::refused(&mut r), signs::drawn(&mut r));
+    println!("request Five: {} with farthest lower ends that balance, {} that do not", signs::balanced(&mut r), signs::farthest(&mut r));
     println!("crowded levels: {}", exercises::crowded(&mut r));
     println!("node capacity: {}", capacity::both_ends(&mut r));
-    report("random constraints", &encoder::valid(&mut r, 3_000));
-    report("larger constraints", &encoder::larger(&mut r, 80));
-    report("damaged constraints", &encoder::damaged(&mut r, 3_000));
+    encoders(&mut r);
     let (finds, hits) = finder::random(&mut r, 1_000);
     println!("finder, over words and over records: {finds} calls each, {hits} found");
     println!("clause tester by the specification: {} lists", tester::cases());
@@ -91,7 +109,7 @@ fn main() {
     report_compared("file comparer", &comparer::random(&mut r, 2_000));
     report_compared("file comparer, every file of up to nine bytes, each 0 or 1", &comparer::every());
     text(&mut r);
-    let (shown, refused) = show::program(&mut r, 400);
+    let (shown, refused) = show::program(&mut r, 600);
     println!("printing program: {shown} inputs (refused by number {})", numbers(&refused));
     println!("no difference, {:.1} s", begin.elapsed().as_secs_f64());
 }

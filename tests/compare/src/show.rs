@@ -2,6 +2,7 @@
 
 use crate::call::Given;
 use crate::program::Program;
+use crate::signs::{words, DRAWN};
 use reference::random::Random;
 
 /// A child as it is printed.
@@ -14,7 +15,7 @@ fn child(edge: u32) -> String {
 }
 
 /// The lines of an accepted constraint: the counts, then a line a node.
-fn lines(g: &Given) -> String {
+pub fn lines(g: &Given) -> String {
     let (n, t, e) = (g.reply, &g.table, &g.edges);
     let mut text = format!("nodes {} edges {} words {}\n", n.nodes, n.edges, n.words);
     let places: Vec<usize> = (0..n.nodes as usize).map(|k| t[4 * k + 3] as usize).chain([n.edges as usize]).collect();
@@ -25,11 +26,14 @@ fn lines(g: &Given) -> String {
     text
 }
 
-/// The ends, exercise R and random constraints; gives how many inputs ran and how many were refused by number.
-pub fn program(r: &mut Random, count: u64) -> (u64, [u64; 15]) {
+/// The ends, exercise R, those of request Five and random constraints; gives how many inputs ran and how many were refused by number.
+pub fn program(r: &mut Random, count: u64) -> (u64, [u64; 19]) {
     let show = Program { name: "show", prints: lines };
     let exercise: (&[u32], &str) =
         (&[12, 0x4002_0002, 0x4003_0005], "nodes 3 edges 11 words 56\n0 1 12 13 2 2 1\n1 2 5 9 T T F F\n2 2 10 14 T T T F\n");
-    let fixed = show.ends() + show.examples(&[exercise]);
+    let signs: Vec<(Vec<u32>, &str)> = DRAWN.iter().map(|(text, lines, _)| (words(text), *lines)).collect();
+    let mut examples: Vec<(&[u32], &str)> = signs.iter().map(|(words, lines)| (&words[..], *lines)).collect();
+    examples.push(exercise);
+    let fixed = show.ends() + show.examples(&examples);
     (fixed + count, show.random(r, count))
 }

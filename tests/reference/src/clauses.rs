@@ -38,7 +38,7 @@ pub fn clauses(c: &Constraint, diagram: &Diagram) -> Vec<u32> {
     }
     out.clause(&[always]);
     out.clause(&[NEGATED | never]);
-    out.clause(&[if diagram.nodes.is_empty() { always } else { count + 3 }]);
+    out.clause(&[literal(diagram.root)]);
     for (k, node) in diagram.nodes.iter().enumerate() {
         let (d, b) = (c.terms[node.level - 1].d as usize, base[node.level - 1]);
         let here = NEGATED | (count + 3 + k as u32);

@@ -12,9 +12,10 @@ pub struct Node {
     pub first: usize,
 }
 
-/// All nodes by level and lower end, and their edges in the same order.
-#[derive(Clone, Debug, Default, PartialEq, Eq)]
+/// What the bound leads to, all nodes by level and lower end, and their edges in the same order.
+#[derive(Clone, Debug, PartialEq, Eq)]
 pub struct Diagram {
+    pub root: u32,
     pub nodes: Vec<Node>,
     pub edges: Vec<u32>,
 }

@@ -1,9 +1,11 @@
 //! The encoder over lent lists.
 
 use crate::clauses::clauses;
-use crate::constraint::{read, Constraint, Refusal};
+use crate::constraint::Constraint;
 use crate::diagram::Diagram;
 use crate::lent::place;
+use crate::refusal::Refusal;
+use crate::words::read;
 
 /// A way to build the diagram, with the most nodes that it may have.
 pub type Build = fn(&Constraint, usize) -> Option<Diagram>;
@@ -18,7 +20,7 @@ pub struct Counts {
 
 /// The whole call: the counts or the refusal, and the three lists as the specification leaves them.
 pub fn encode(build: Build, words: &[u32], table: &mut [u32], edges: &mut [u32], list: &mut [u32]) -> Result<Counts, Refusal> {
-    let c = read(words)?;
+    let c = read(words)?.base();
     let made = build(&c, (table.len() / 4).min(65_536));
     let number = match &made {
         None => 6,

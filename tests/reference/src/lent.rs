@@ -1,6 +1,6 @@
 //! Lent lists as a call leaves them.
 
-use crate::constraint::Refusal;
+use crate::refusal::Refusal;
 
 /// Puts `made` first and zeros behind it.
 pub fn place<T: Copy + Default>(lent: &mut [T], made: &[T]) {

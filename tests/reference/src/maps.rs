@@ -61,19 +61,20 @@ pub fn build(c: &Constraint, most: usize) -> Option<Diagram> {
     let n = c.terms.len();
     let rest = (0..=n).map(|i| c.rest(i)).collect();
     let mut b = Builder { c, rest, levels: vec![BTreeMap::new(); n], rows: Vec::new(), first: Vec::new(), most };
-    b.node(0, c.bound)?;
+    let root = b.node(0, c.bound)?.what;
     let mut number = vec![0u32; b.first.len()];
     let all = b.levels.iter().flat_map(|level| level.values());
     for (k, s) in all.clone().enumerate() {
         number[s.what as usize] = k as u32;
     }
-    let mut diagram = Diagram { nodes: Vec::with_capacity(number.len()), edges: Vec::with_capacity(b.rows.len()) };
+    let final_number = |w: &u32| if *w >= FALSE { *w } else { number[*w as usize] };
+    let mut diagram =
+        Diagram { root: final_number(&root), nodes: Vec::with_capacity(number.len()), edges: Vec::with_capacity(b.rows.len()) };
     for (i, level) in b.levels.iter().enumerate() {
         let children = c.terms[i].d as usize + 1;
         for s in level.values() {
             diagram.nodes.push(Node { level: i + 1, low: s.low, high: s.high, first: diagram.edges.len() });
             let first = b.first[s.what as usize];
-            let final_number = |w: &u32| if *w >= FALSE { *w } else { number[*w as usize] };
             diagram.edges.extend(b.rows[first..first + children].iter().map(final_number));
         }
     }

@@ -1,8 +1,8 @@
 //! DIMACS text as a clause list: comments are taken out, the rest is split into words, and these are judged as they stand. Where a text is refused is not watched for on the
 //! way: whether a legal text begins with some bytes is a question of its own, and the place is found by asking it of shorter and longer beginnings.
 
-use crate::constraint::Refusal;
 use crate::lent::hand_over;
+use crate::refusal::Refusal;
 
 /// The greatest first number of a header.
 const BOOLEANS: u64 = 536_870_911;

@@ -56,19 +56,28 @@ impl Sums {
     }
 }
 
+/// T or F where the bound alone decides, so that there is no node.
+fn decided(c: &Constraint) -> Option<u32> {
+    match c.bound {
+        ..0 => Some(FALSE),
+        b if b >= c.rest(0) => Some(TRUE),
+        _ => None,
+    }
+}
+
 /// The diagram, or nothing where it has more than `most` nodes.
 pub fn build(c: &Constraint, most: usize) -> Option<Diagram> {
+    if let Some(root) = decided(c) {
+        return Some(Diagram { root, nodes: Vec::new(), edges: Vec::new() });
+    }
     let n = c.terms.len();
     let mut sums = vec![Sums::zero()];
     for t in c.terms.iter().rev() {
         sums.push(sums.last().unwrap().with_term(t.a, t.d));
     }
     sums.reverse();
-    let mut diagram = Diagram::default();
-    let mut level: BTreeSet<i64> = BTreeSet::new();
-    if c.bound < sums[0].greatest {
-        level.insert(sums[0].at_most(c.bound));
-    }
+    let mut level = BTreeSet::from([sums[0].at_most(c.bound)]);
+    let mut diagram = Diagram { root: 0, nodes: Vec::new(), edges: Vec::new() };
     for i in 0..n {
         let behind = diagram.nodes.len() + level.len();
         if behind > most {

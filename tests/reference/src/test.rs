@@ -1,6 +1,6 @@
 //! The clause tester: the list is first split into clauses, with every check, and only then valued.
 
-use crate::constraint::Refusal;
+use crate::refusal::Refusal;
 
 /// What the tester says.
 #[derive(Clone, Copy, Debug, PartialEq, Eq)]

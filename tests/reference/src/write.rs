@@ -1,7 +1,7 @@
 //! A clause list as DIMACS text.
 
-use crate::constraint::Refusal;
 use crate::lent::hand_over;
+use crate::refusal::Refusal;
 use crate::test::split;
 use std::fmt::Write as _;
 

@@ -1,7 +1,6 @@
 //! The text that the solvers are asked about, beside the clause words that it stands for.
 
 use archive::program::{bytes_of, printed};
-use reference::constraint::Constraint;
 
 /// A text and its clause words.
 pub struct Clauses {
@@ -10,13 +9,13 @@ pub struct Clauses {
 }
 
 impl Clauses {
-    /// What the program prints for the constraint, and the encoder's words.
-    pub fn of(c: &Constraint) -> Clauses {
+    /// What the program prints for the constraint of the words, and the encoder's clause words.
+    pub fn of(constraint: &[u32]) -> Clauses {
         let (mut table, mut edges, mut words) = (vec![0; 4_096], vec![0; 8_192], vec![0; 16_384]);
-        let reply = archive::encode(&c.words(), &mut table, &mut edges, &mut words);
-        assert_eq!(reply.number, 0, "{c:?} is refused");
+        let reply = archive::encode(constraint, &mut table, &mut edges, &mut words);
+        assert_eq!(reply.number, 0, "{constraint:08X?} is refused");
         words.truncate(reply.words as usize);
-        let text = String::from_utf8(printed("dimacs", &bytes_of(&c.words()))).unwrap();
+        let text = String::from_utf8(printed("dimacs", &bytes_of(constraint))).unwrap();
         Clauses { text, words }.read_back()
     }
 

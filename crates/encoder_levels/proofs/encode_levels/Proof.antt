@@ -1,47 +1,36 @@
--- `encoder_levels::encode_levels` meets its contract: the diagram is built into the capacity, and what the passes then say holds of the whole table. Assumes nothing.
-use Rattle.encoder_levels.proofs.Tables.{part-length, whole-length, tabled-T, tabled-node, same-answer, full-answer}
+-- `encoder_levels::encode_levels` meets its contract: a decided bound has no nodes, and an undecided one is a remainder of 32 bits. Assumes nothing.
+use mathlib.Core.Path.{sym, _∙_}
+use native.Mathlib.Omega.{arith}
+use lib.IntN.{pos, negsuc}
+use Rattle.constraint_bound.proofs.Laws.{negative-is, natural-is}
+use Rattle.constraint.proofs.Slices.{rests-count, rest-at, rest-small}
+use Rattle.encoder_levels.proofs.Tables.{tabled-F, tabled-T, renamed}
 use borrow.Author.Needs.{needs}
 use Rattle.encoder_levels.proofs.encode_levels.Statement.{statement}
 use Rattle.encoder_levels.proofs.encode_levels.Tie as tie
 
-room-requires : tie.Need-room-requires
-room-requires c κs = search needs
+enum-known-bound : tie.Need-enum-known-bound
+enum-known-bound c = search needs
 
-mul-limit : tie.Need-mul-limit
-mul-limit c = search needs
+shared-slice-read-if1 : tie.Need-shared-slice-read-if1
+shared-slice-read-if1 c =
+    let s = c .before .before .before .before .before .before .before .before .before .before in
+    omega (arith, rests-count (s .args .coefs .now) (s .args .ends .now) (s .args .rests .now) (s .pre .0))
 
-slice-relend-prefix-build-root : tie.Need-slice-relend-prefix-build-root
-slice-relend-prefix-build-root c = search needs
+cast-if1 : tie.Need-cast-if1
+cast-if1 c =
+    let s = c .before .before .before .before .before .before .before .before .before .before in
+    omega (arith, rest-at (s .args .coefs .now) (s .args .ends .now) (s .args .rests .now) (s .pre .0) 0 (omega arith), rest-small (s .args .coefs .now) (s .args .ends .now) (s .args .rests .now) (s .pre .0) 0)
 
-slice-aggregate-build-root : tie.Need-slice-aggregate-build-root
-slice-aggregate-build-root c = let s = c .before .before .before .before .before .before .before .before in rw (c .before .room .ensures) (part-length (s .args .table .now))
+cast-t16 : tie.Need-cast-t16
+cast-t16 c =
+    let s = c .before .before .before .before .before .before .before .before .before .before .before in
+    omega (arith, rest-at (s .args .coefs .now) (s .args .ends .now) (s .args .rests .now) (s .pre .0) 0 (omega arith), rest-small (s .args .coefs .now) (s .args .ends .now) (s .args .rests .now) (s .pre .0) 0)
 
-build-root-requires : tie.Need-build-root-requires
-build-root-requires c κs = search needs
-
-enum-told : tie.Need-enum-told
-enum-told c = search needs
-
-refuse-requires : tie.Need-refuse-requires
-refuse-requires c κs = search needs
-
-enum-told-2 : tie.Need-enum-told-2
-enum-told-2 c = search needs
-
-finish-requires : tie.Need-finish-requires
-finish-requires c κs =
-    let s = c .before .before .before .before .before .before .before .before .before .before .before .before .before .before .before .before .before .before .before in
-    let d = rw (c .before .before .before .enum-told2 .given .1) at (c .before .before .before .before .before .before .before .before .before .build-root .ensures) in
-    (s .pre .0, (s .args .bound, tabled-T (s .args .coefs .now) (s .args .ends .now) (s .args .bound) (s .args .orders) (s .pre .1) _ (d .0)))
-
-enum-known-n : tie.Need-enum-known-n
-enum-known-n c = search needs
-
-finish-requires-2 : tie.Need-finish-requires-2
-finish-requires-2 c κs =
-    let s = c .before .before .before .before .before .before .before .before .before .before .before .before .before .before .before .before .before .before .before .before in
-    let d = rw (c .before .before .before .before .n .given .1) at (c .before .before .before .before .before .before .before .before .before .before .build-root .ensures) in
-    (s .pre .0, (s .args .bound, tabled-node (s .args .coefs .now) (s .args .ends .now) (s .args .bound) (s .args .orders) (s .pre .1) (s .args .table .now) _ _ _ (c .before .before .before .before .before .before .before .before .before .before .before .before .before .room .ensures) d))
+encode-undecided-requires : tie.Need-encode-undecided-requires
+encode-undecided-requires c κs =
+    let s = c .before .before .before .before .before .before .before .before .before .before .before .before .before .before in
+    ((s .pre .0, omega (arith, rest-at (s .args .coefs .now) (s .args .ends .now) (s .args .rests .now) (s .pre .0) 0 (omega arith))), s .pre .1)
 
 same-length : tie.Need-same-length
 same-length c = search needs
@@ -54,11 +43,22 @@ same-length-3 c = search needs
 
 returns : tie.Need-returns
 returns c =
-    let s = c .before .before .before .before .before .before .before .before .before .before .before .before .before .before .before .before .before .before .before .before .before .before .before .before .before .before in
-    let b = c .before .before .before .before .before .before .before .before .before .before .before .before .before .before .before .before .build-root in
-    let d = rw (c .before .before .before .before .before .before .before .before .before .before .enum-told .given .1) at (b .ensures) in
-    full-answer (s .args .coefs .now) (s .args .ends .now) (s .args .bound) _ (s .args .table .now) _ _ (s .args .clauses .now) _ _ _ _ _ (c .before .before .before .before .before .before .before .before .before .before .before .before .before .before .before .before .before .before .before .room .ensures) (d .1)
-    (whole-length (s .args .table .now) (b .last .1 .1 .1 .0) _ (c .before .before .before .before .before .before .before .before .before .before .before .before .before .before .before .before .before .before .before .room .ensures) (b .kept .1 .1 .1 .0)) (b .kept .1 .1 .1 .1 .0) (c .before .before .before .before .before .before .refuse .ensures)
+    let s = c .before .before .before .before .before .before .before .before .before .before .before .before .before .before .before .before .before .before .before .before .before in
+    λ a e. renamed (s .args .coefs .now) (s .args .ends .now) _ _ _ _ _ _ _ (natural-is a _ (sym (c .before .before .before .before .before .before .before .before .before .before .before .before .before .bound .given .1) ∙ e)) (c .before .before .before .before .before .before .encode-undecided .ensures)
+
+finish-requires : tie.Need-finish-requires
+finish-requires c κs =
+    let s = c .before .before .before .before .before .before .before .before .before .before .before .before .before .before in
+    let b = c .before .before .before .before .before .before .bound .given .0 .0 in
+    (s .pre .0, (pos b, tabled-T (s .args .coefs .now) (s .args .ends .now) (s .args .orders) (s .pre .1) b _ (omega (arith, rest-at (s .args .coefs .now) (s .args .ends .now) (s .args .rests .now) (s .pre .0) 0 (omega arith)))))
+
+enum-told : tie.Need-enum-told
+enum-told c = search needs
+
+finish-requires-2 : tie.Need-finish-requires-2
+finish-requires-2 c κs =
+    let s = c .before .before .before .before .before .before .before .before .before .before .before in
+    (s .pre .0, (negsuc 0, tabled-F (s .args .coefs .now) (s .args .ends .now) (s .args .orders) (s .pre .1) 0 _))
 
 same-length-4 : tie.Need-same-length-4
 same-length-4 c = search needs
@@ -71,12 +71,9 @@ same-length-6 c = search needs
 
 returns-2 : tie.Need-returns-2
 returns-2 c =
-    let s = c .before .before .before .before .before .before .before .before .before .before .before .before .before .before .before .before .before .before .before .before .before .before .before .before .before .before in
-    let b = c .before .before .before .before .before .before .before .before .before .before .before .before .before .before .before .before .build-root in
-    let d = rw (c .before .before .before .before .before .before .before .before .before .before .enum-told2 .given .1) at (b .ensures) in
-    same-answer (s .args .coefs .now) (s .args .ends .now) (s .args .bound) (s .args .table .now) _ _ (s .args .clauses .now) _ _ _ _ _
-    (whole-length (s .args .table .now) (b .last .1 .1 .1 .0) _ (c .before .before .before .before .before .before .before .before .before .before .before .before .before .before .before .before .before .before .before .room .ensures) (b .kept .1 .1 .1 .0)) (b .kept .1 .1 .1 .1 .0)
-    (c .before .before .before .before .before .before .finish .ensures (s .args .bound) (tabled-T (s .args .coefs .now) (s .args .ends .now) (s .args .bound) (s .args .orders) (s .pre .1) _ (d .0)))
+    let s = c .before .before .before .before .before .before .before .before .before .before .before .before .before .before .before .before .before .before .before .before .before in
+    λ a e.
+    renamed (s .args .coefs .now) (s .args .ends .now) _ _ _ _ _ _ _ (natural-is a _ (sym (c .before .before .before .before .before .before .before .before .before .before .before .before .before .bound .given .1) ∙ e)) (c .before .before .before .before .before .before .finish .ensures (pos _) (tabled-T (s .args .coefs .now) (s .args .ends .now) (s .args .orders) (s .pre .1) _ _ (omega (arith, rest-at (s .args .coefs .now) (s .args .ends .now) (s .args .rests .now) (s .pre .0) 0 (omega arith)))))
 
 same-length-7 : tie.Need-same-length-7
 same-length-7 c = search needs
@@ -89,32 +86,27 @@ same-length-9 c = search needs
 
 returns-3 : tie.Need-returns-3
 returns-3 c =
-    let s = c .before .before .before .before .before .before .before .before .before .before .before .before .before .before .before .before .before .before .before .before .before .before .before .before .before .before .before in
-    let b = c .before .before .before .before .before .before .before .before .before .before .before .before .before .before .before .before .before .build-root in
-    let d = rw (c .before .before .before .before .before .before .before .before .before .before .before .n .given .1) at (b .ensures) in
-    same-answer (s .args .coefs .now) (s .args .ends .now) (s .args .bound) (s .args .table .now) _ _ (s .args .clauses .now) _ _ _ _ _
-    (whole-length (s .args .table .now) (b .last .1 .1 .1 .0) _ (c .before .before .before .before .before .before .before .before .before .before .before .before .before .before .before .before .before .before .before .before .room .ensures) (b .kept .1 .1 .1 .0)) (b .kept .1 .1 .1 .1 .0)
-    (c .before .before .before .before .before .before .finish2 .ensures (s .args .bound) (tabled-node (s .args .coefs .now) (s .args .ends .now) (s .args .bound) (s .args .orders) (s .pre .1) (s .args .table .now) _ _ _ (c .before .before .before .before .before .before .before .before .before .before .before .before .before .before .before .before .before .before .before .before .room .ensures) d))
+    let s = c .before .before .before .before .before .before .before .before .before .before .before .before .before .before .before .before .before .before in
+    λ a e.
+    let z = negative-is a (sym (c .before .before .before .before .before .before .before .before .before .before .enum-told .given .1) ∙ e) in
+    renamed (s .args .coefs .now) (s .args .ends .now) _ _ _ _ _ _ _ (z .1) (c .before .before .before .before .before .before .finish2 .ensures (negsuc (z .0)) (tabled-F (s .args .coefs .now) (s .args .ends .now) (s .args .orders) (s .pre .1) (z .0) _))
 
 pub encode-levels-spec : {M : Type 1} → statement M
 encode-levels-spec =
     tie.close
     (tie.spec
-    room-requires
-    mul-limit
-    slice-relend-prefix-build-root
-    slice-aggregate-build-root
-    build-root-requires
-    enum-told
-    refuse-requires
-    enum-told-2
-    finish-requires
-    enum-known-n
-    finish-requires-2
+    enum-known-bound
+    shared-slice-read-if1
+    cast-if1
+    cast-t16
+    encode-undecided-requires
     same-length
     same-length-2
     same-length-3
     returns
+    finish-requires
+    enum-told
+    finish-requires-2
     same-length-4
     same-length-5
     same-length-6
