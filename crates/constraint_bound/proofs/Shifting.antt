@@ -7,13 +7,14 @@ use native.Mathlib.Nat.{mul-le-mul}
 use native.Mathlib.Omega.{arith}
 use borrow.Author.Tests.{lt-ltb, le-ltb, le-leb, eqb-true}
 use lib.Dec.{leb, eqb}
-use lib.IntN.{ℤ, pos, predℤ, negℤ, subℕ, _*ℤ_}
+use lib.IntN.{ℤ, predℤ, negℤ, subℕ}
 use lib.ListN.{getD}
 use Rattle.word.specs.Word.{payload, half, coefficient, domainEnd, payloads}
 use Rattle.diagram.specs.Constraint.{lastCoefficient}
-use Rattle.inequality.specs.Written.{greaterThan, upperEnd}
+use Rattle.inequality.specs.Written.{greaterThan, SignedTerm}
 use Rattle.inequality.specs.Base.{boundBy, shiftIf, turnedBy}
-use Rattle.inequality.proofs.Differences.{Is, is-sub, is-same, is-also, is-add, is-neg, is-mul, is-pred}
+use Rattle.inequality.proofs.Alike.{shift-by-lower, shift-by-upper}
+use Rattle.inequality.proofs.Differences.{Is, is-sub, is-same, is-also, is-neg, is-pred}
 use Rattle.constraint_bound.specs.declared.Difference.{Difference}
 use Rattle.constraint_bound.specs.declared.Bound.the-variants.{Negative, Natural}
 use Rattle.constraint_words.specs.Reading.{hasRelation, relationOf, relationIn, boundIn, termOf}
@@ -34,36 +35,27 @@ differ-is {n} {z} {p} d = subst (λ (x : ℤ). Is x (p .gain) (p .loss)) (d .is)
 
 -- ---- The shift of a term
 
-module _ (w lower : ℕ) (small : lower < payloads) where
-  lower-is : Is (subℕ lower half) lower half
-  lower-is = sub-is lower half
+-- the products fit
+product-fits : (w n : ℕ) → n ≤ payloads + 8191 → coefficient w * n ≤ mostShift
+product-fits w n h =
+    let c : coefficient w ≤ lastCoefficient = omega arith in
+    let p : coefficient w * n ≤ lastCoefficient * (payloads + 8191) = mul-le-mul c h in omega arith
 
-  -- the products fit
+module _ (w lower : ℕ) (small : lower < payloads) where
+  abbrev t : SignedTerm
+  t = termOf (subℕ lower half) w
+
   pub up-fits : coefficient w * lower ≤ mostShift
-  up-fits = let c : coefficient w ≤ lastCoefficient = omega arith in let l : lower ≤ payloads = omega arith in let p : coefficient w * lower ≤ lastCoefficient * payloads = mul-le-mul c l in omega arith
+  up-fits = product-fits w lower (omega arith)
 
   pub down-fits : coefficient w * (lower + domainEnd w) ≤ mostShift
-  down-fits =
-      let c : coefficient w ≤ lastCoefficient = omega arith in
-      let l : lower + domainEnd w ≤ payloads + 8191 = omega arith in
-      let p : coefficient w * (lower + domainEnd w) ≤ lastCoefficient * (payloads + 8191) = mul-le-mul c l in omega arith
+  down-fits = product-fits w (lower + domainEnd w) (omega arith)
 
-  pub half-fits : coefficient w * half ≤ mostShift
-  half-fits = let c : coefficient w ≤ lastCoefficient = omega arith in let l : half ≤ half = omega arith in let p : coefficient w * half ≤ lastCoefficient * half = mul-le-mul c l in omega arith
+  pub shift-up : Differ mostShift (shiftIf false t) (record { gain = coefficient w * half; loss = coefficient w * lower })
+  shift-up = differ (shift-by-lower t lower half (sub-is lower half)) (product-fits w half (omega arith)) up-fits
 
-  pub shift-up : Differ mostShift (shiftIf false (termOf (subℕ lower half) w)) (record { gain = coefficient w * half; loss = coefficient w * lower })
-  shift-up =
-      let a = coefficient w in
-      differ (is-neg (pos a *ℤ subℕ lower half) (a * lower) (a * half) (is-mul a (subℕ lower half) lower half lower-is)) half-fits up-fits
-
-  upper-is : Is (upperEnd (termOf (subℕ lower half) w)) (lower + domainEnd w) half
-  upper-is =
-      is-also (upperEnd (termOf (subℕ lower half) w)) (lower + domainEnd w) (half + 0) (lower + domainEnd w) half
-      (is-add (subℕ lower half) (pos (domainEnd w)) lower half (domainEnd w) 0 lower-is (omega arith)) (omega arith)
-
-  pub shift-down : Differ mostShift (shiftIf true (termOf (subℕ lower half) w)) (record { gain = coefficient w * (lower + domainEnd w); loss = coefficient w * half })
-  shift-down =
-      differ (is-mul (coefficient w) (upperEnd (termOf (subℕ lower half) w)) (lower + domainEnd w) half upper-is) down-fits half-fits
+  pub shift-down : Differ mostShift (shiftIf true t) (record { gain = coefficient w * (lower + domainEnd w); loss = coefficient w * half })
+  shift-down = differ (shift-by-upper t lower half (sub-is lower half)) down-fits (product-fits w half (omega arith))
 
 -- a plain term's shift adds nothing
 abbrev pub nothing : Difference

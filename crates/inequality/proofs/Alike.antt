@@ -11,11 +11,22 @@ use lib.IntN.{ℤ, pos, predℤ, sucℤ, negℤ, _+ℤ_, _*ℤ_, negℤ-negℤ, 
 use Rattle.diagram.specs.Level.{Choice, total, AtMost, Allows}
 use Rattle.diagram.specs.Constraint.{levels}
 use Rattle.inequality.specs.Written.{Relation, atMost, lessThan, atLeast, greaterThan, SignedTerm, Inequality, upperEnd, InDomain, InDomains, signed, adds, sumOf, Related, Satisfies}
-use Rattle.inequality.specs.Base.{boundBy, negativeBy, valueIf, valuesBy, standsFor, shiftIf, shifts, baseTerm, baseForm}
+use Rattle.inequality.specs.Base.{boundBy, turnedBy, signIf, negativeBy, valueIf, valuesBy, standsFor, shiftIf, shifts, baseTerm, baseForm}
 use Rattle.inequality.specs.Claim.{baseLevels}
-use Rattle.inequality.proofs.Differences.{Is, plusOf, minusOf, is-own, is-same, is-also, is-one, is-add, is-neg, is-less, is-mul, is-suc, is-pred, no-more, at-most}
+use Rattle.inequality.proofs.Differences.{Is, plusOf, minusOf, is-own, is-same, is-also, is-one, is-add, is-above, is-neg, is-less, is-mul, is-suc, is-pred, no-more, at-most}
 
--- ---- One term: its ends and the value of a choice as differences
+-- ---- One term: its upper end and its shift by its lower end, all as differences
+
+pub upper-by : (t : SignedTerm) (a b : ℕ) → Is (t .lower) a b → Is (upperEnd t) (a + t .distance) b
+upper-by t a b e = is-above (t .lower) (t .distance) a b e
+
+pub shift-by-lower : (t : SignedTerm) (a b : ℕ) → Is (t .lower) a b → Is (shiftIf false t) (t .magnitude * b) (t .magnitude * a)
+shift-by-lower t a b e = is-neg (pos (t .magnitude) *ℤ t .lower) (t .magnitude * a) (t .magnitude * b) (is-mul (t .magnitude) (t .lower) a b e)
+
+pub shift-by-upper : (t : SignedTerm) (a b : ℕ) → Is (t .lower) a b → Is (shiftIf true t) (t .magnitude * (a + t .distance)) (t .magnitude * b)
+shift-by-upper t a b e = is-mul (t .magnitude) (upperEnd t) (a + t .distance) b (upper-by t a b e)
+
+-- ---- Its ends and the value of a choice
 
 module _ (t : SignedTerm) where
   abbrev lo : ℕ
@@ -28,13 +39,10 @@ module _ (t : SignedTerm) where
   lower-is = is-own (t .lower)
 
   upper-is : Is (upperEnd t) (lo + t .distance) lu
-  upper-is =
-      is-also (upperEnd t) (lo + t .distance) (lu + 0) (lo + t .distance) lu
-      (is-add (t .lower) (pos (t .distance)) lo lu (t .distance) 0 lower-is (omega arith)) (omega arith)
+  upper-is = upper-by t lo lu lower-is
 
   value-up : (y : ℕ) → Is (valueIf false t y) (lo + y) lu
-  value-up y =
-      is-also (valueIf false t y) (lo + y) (lu + 0) (lo + y) lu (is-add (t .lower) (pos y) lo lu y 0 lower-is (omega arith)) (omega arith)
+  value-up y = is-above (t .lower) y lo lu lower-is
 
   value-down : (y : ℕ) → Is (valueIf true t y) (lo + t .distance) (lu + y)
   value-down y =
@@ -112,13 +120,6 @@ stands-once r (t ∷ ts) (y ∷ ys) (z ∷ zs) h k e =
 
 -- ---- THE SUM
 
--- The sum once the relation is 'at most'.
-abbrev pub turned : Relation → ℤ → ℤ
-turned atMost s = s
-turned lessThan s = s
-turned atLeast s = negℤ s
-turned greaterThan s = negℤ s
-
 -- equal to a natural number, as differences
 sum-is : (x w : ℤ) (k : ℕ) → x +ℤ w ≡ pos k → plusOf x + plusOf w ≡ minusOf x + minusOf w + k
 sum-is x w k e =
@@ -137,22 +138,16 @@ module _ (t : SignedTerm) (y : ℕ) where
   product-down : Is (pos a *ℤ valueIf true t y) (a * (lo t + t .distance)) (a * (lu t + y))
   product-down = is-mul a (valueIf true t y) (lo t + t .distance) (lu t + y) (value-down t y)
 
-  shift-up : Is (shiftIf false t) (a * lu t) (a * lo t)
-  shift-up = is-neg (pos a *ℤ t .lower) (a * lo t) (a * lu t) (is-mul a (t .lower) (lo t) (lu t) (lower-is t))
-
-  shift-down : Is (shiftIf true t) (a * (lo t + t .distance)) (a * lu t)
-  shift-down = is-mul a (upperEnd t) (lo t + t .distance) (lu t) (upper-is t)
-
   -- a term positive by now, and one that is negative
   taken-up : pos a *ℤ valueIf false t y +ℤ shiftIf false t ≡ pos (a * y)
   taken-up =
-      is-nat (pos a *ℤ valueIf false t y) (shiftIf false t) (a * (lo t + y)) (a * lu t) (a * lu t) (a * lo t) (a * y) product-up shift-up
+      is-nat (pos a *ℤ valueIf false t y) (shiftIf false t) (a * (lo t + y)) (a * lu t) (a * lu t) (a * lo t) (a * y) product-up (shift-by-lower t (lo t) (lu t) (lower-is t))
       (omega (arith, mul-add a (lo t) y))
 
   taken-down : negℤ (pos a *ℤ valueIf true t y) +ℤ shiftIf true t ≡ pos (a * y)
   taken-down =
       is-nat (negℤ (pos a *ℤ valueIf true t y)) (shiftIf true t) (a * (lu t + y)) (a * (lo t + t .distance)) (a * (lo t + t .distance)) (a * lu t) (a * y)
-      (is-neg (pos a *ℤ valueIf true t y) (a * (lo t + t .distance)) (a * (lu t + y)) product-down) shift-down (omega (arith, mul-add a (lu t) y))
+      (is-neg (pos a *ℤ valueIf true t y) (a * (lo t + t .distance)) (a * (lu t + y)) product-down) (shift-by-upper t (lo t) (lu t) (lower-is t)) (omega (arith, mul-add a (lu t) y))
 
   -- what a term adds once the relation is 'at most', and its shift, are what its choice takes in the base form
   taken-if : (n : Bool) → signed n (pos a *ℤ valueIf n t y) +ℤ shiftIf n t ≡ pos (a * y)
@@ -163,23 +158,18 @@ negated-twice : (n : Bool) (z : ℤ) → negℤ (signed n z) ≡ signed (not n) 
 negated-twice true z = negℤ-negℤ z
 negated-twice false z = refl
 
-taken : (r : Relation) (t : SignedTerm) (y : ℕ) → turned r (adds t (valueIf (negativeBy r t) t y)) +ℤ shiftIf (negativeBy r t) t ≡ pos (t .magnitude * y)
-taken atMost t y = taken-if t y (t .negative)
-taken lessThan t y = taken-if t y (t .negative)
-taken atLeast t y = rw (negated-twice (t .negative) (pos (t .magnitude) *ℤ valueIf (not (t .negative)) t y)) (taken-if t y (not (t .negative)))
-taken greaterThan t y = rw (negated-twice (t .negative) (pos (t .magnitude) *ℤ valueIf (not (t .negative)) t y)) (taken-if t y (not (t .negative)))
+-- the same, and sums, with the sign turned round or not
+taken : (b : Bool) (t : SignedTerm) (y : ℕ) → signed b (adds t (valueIf (signIf b (t .negative)) t y)) +ℤ shiftIf (signIf b (t .negative)) t ≡ pos (t .magnitude * y)
+taken false t y = taken-if t y (t .negative)
+taken true t y = rw (negated-twice (t .negative) (pos (t .magnitude) *ℤ valueIf (not (t .negative)) t y)) (taken-if t y (not (t .negative)))
 
-turned-add : (r : Relation) (x y : ℤ) → turned r (x +ℤ y) ≡ turned r x +ℤ turned r y
-turned-add atMost x y = refl
-turned-add lessThan x y = refl
-turned-add atLeast x y = negℤ-+ℤ x y
-turned-add greaterThan x y = negℤ-+ℤ x y
+signed-add : (b : Bool) (x y : ℤ) → signed b (x +ℤ y) ≡ signed b x +ℤ signed b y
+signed-add false x y = refl
+signed-add true x y = negℤ-+ℤ x y
 
-turned-none : (r : Relation) → turned r (pos 0) +ℤ pos 0 ≡ pos 0
-turned-none atMost = refl
-turned-none lessThan = refl
-turned-none atLeast = refl
-turned-none greaterThan = refl
+signed-none : (b : Bool) → signed b (pos 0) +ℤ pos 0 ≡ pos 0
+signed-none false = refl
+signed-none true = refl
 
 four : (x s v w : ℤ) (j k : ℕ) → x +ℤ v ≡ pos j → s +ℤ w ≡ pos k → (x +ℤ s) +ℤ (v +ℤ w) ≡ pos (j + k)
 four x s v w j k e f =
@@ -190,13 +180,13 @@ four x s v w j k e f =
 
 -- THE SUM AS WRITTEN, turned round where the relation is, and the shifts together are what the choice takes in the base form
 pub sum-shifted : (r : Relation) (ts : List SignedTerm) (ys : List ℕ) → Choice (levels (map baseTerm ts)) ys
-    → turned r (sumOf ts (valuesBy r ts ys)) +ℤ shifts r ts ≡ pos (total (levels (map baseTerm ts)) ys)
-sum-shifted r [] ys h = turned-none r
+    → signed (turnedBy r) (sumOf ts (valuesBy r ts ys)) +ℤ shifts r ts ≡ pos (total (levels (map baseTerm ts)) ys)
+sum-shifted r [] ys h = signed-none (turnedBy r)
 sum-shifted r (t ∷ ts) [] h = absurd h
 sum-shifted r (t ∷ ts) (y ∷ ys) h =
-    rw (turned-add r (adds t (valueIf (negativeBy r t) t y)) (sumOf ts (valuesBy r ts ys)))
-    (four (turned r (adds t (valueIf (negativeBy r t) t y))) (turned r (sumOf ts (valuesBy r ts ys))) (shiftIf (negativeBy r t) t) (shifts r ts) (t .magnitude * y) (total (levels (map baseTerm ts)) ys)
-    (taken r t y) (sum-shifted r ts ys (h .1)))
+    rw (signed-add (turnedBy r) (adds t (valueIf (negativeBy r t) t y)) (sumOf ts (valuesBy r ts ys)))
+    (four (signed (turnedBy r) (adds t (valueIf (negativeBy r t) t y))) (signed (turnedBy r) (sumOf ts (valuesBy r ts ys))) (shiftIf (negativeBy r t) t) (shifts r ts) (t .magnitude * y) (total (levels (map baseTerm ts)) ys)
+    (taken (turnedBy r) t y) (sum-shifted r ts ys (h .1)))
 
 -- ---- THE RELATION
 
@@ -229,7 +219,7 @@ module _ (s w b : ℤ) (k : ℕ) where
   allows : (x : ℤ) (c d : ℕ) → Is x c d → AtMost k (x +ℤ w) ↔ (k + (d + wu) ≤ c + wo)
   allows x c d e = at-most k (x +ℤ w) (c + wo) (d + wu) (is-add x w c d wo wu e (is-own w))
 
-  pub related-base : (r : Relation) → turned r s +ℤ w ≡ pos k → Related r s b ↔ AtMost k (boundBy r b +ℤ w)
+  pub related-base : (r : Relation) → signed (turnedBy r) s +ℤ w ≡ pos k → Related r s b ↔ AtMost k (boundBy r b +ℤ w)
   related-base atMost e =
       let p = no-more s b so su bo bu (is-own s) (is-own b) in
       let q = allows b bo bu (is-own b) in

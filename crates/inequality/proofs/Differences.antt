@@ -58,6 +58,9 @@ is-add (pos m) (negsuc n) a b c d p q = is-sub m (suc n) (a + c) (b + d) (omega 
 is-add (negsuc m) (pos n) a b c d p q = is-sub n (suc m) (a + c) (b + d) (omega arith)
 is-add (negsuc m) (negsuc n) a b c d p q = omega arith
 
+pub is-above : (x : ℤ) (y a b : ℕ) → Is x a b → Is (x +ℤ pos y) (a + y) b
+is-above x y a b p = is-also (x +ℤ pos y) (a + y) (b + 0) (a + y) b (is-add x (pos y) a b y 0 p (omega arith)) (omega arith)
+
 pub is-neg : (x : ℤ) (a b : ℕ) → Is x a b → Is (negℤ x) b a
 is-neg (pos zero) a b p = omega arith
 is-neg (pos (suc n)) a b p = omega arith

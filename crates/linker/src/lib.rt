@@ -5,7 +5,7 @@ use word::Child;
 use word::RECORD;
 use word::Remainder;
 ghost use mathlib.Core.Path.{_≡_};
-ghost use Prim.Native.Nat.{ℕ, _+_, _*_, _≤_};
+ghost use Prim.Native.Nat.{_+_, _*_, _≤_};
 ghost use lib.IntN.{ℤ, subℕ};
 ghost use lib.ListN.{length};
 ghost use lib.Seq.{paste};

@@ -1,4 +1,4 @@
--- `constraint::Constraint::check_by` meets its contract: no words, a first word that is no bound, words of document 01, the items' places, and then the other checks.
+-- `constraint::Constraint::check_by` meets its contract: no words, a first word that is no bound, plain words, the items' places, and then the other checks.
 -- Assumes nothing.
 use mathlib.Core.Path.{_≡_, sym, _∙_, subst}
 use Prim.Native.Nat.{ℕ}
