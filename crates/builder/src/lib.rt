@@ -4,9 +4,9 @@ use builder_steps::Branch;
 use builder_steps::Built;
 use finder::Found;
 use word::Remainder;
-ghost use Prim.Native.Nat.{_+_, _-_, _<_, _≤_};
+ghost use Prim.Native.Nat.{_+_, _-_, _<_};
 ghost use lib.ListN.{length, getD};
-ghost use Rattle.word.specs.Record.{used};
+ghost use Rattle.word.specs.Record.{used, RecordsFit};
 ghost use Rattle.finder.specs.Find.{Missing};
 ghost use Rattle.constraint.specs.Lent.{levelsOf, Lent};
 ghost use Rattle.diagram.specs.Level.{R};
@@ -32,7 +32,7 @@ fn find_node<'a>(
     r: Remainder,
 ) -> Built
     requires { ⌜ Ready (now coefs) (now ends) (now rests) i ⌝ }
-    requires { ⌜ Good (now coefs) (now ends) (now table) main count (length (now work)) × (4 ≤ length (now work)) ⌝ }
+    requires { ⌜ Good (now coefs) (now ends) (now table) main count (length (now work)) × RecordsFit 1 (now work) ⌝ }
     requires { ⌜ r .0 < getD (now rests) i 0 ⌝ }
     ensures { λ b. ⌜ NodeOk (now (coefs .entry)) (now (ends .entry)) i (r .0) (now (table .entry)) count (length (now (work .entry))) (now (table .exit)) b ⌝ }
 {
@@ -59,7 +59,7 @@ fn build_node<'a>(
     r: Remainder,
 ) -> Built
     requires { ⌜ Ready (now coefs) (now ends) (now rests) i ⌝ }
-    requires { ⌜ Good (now coefs) (now ends) (now table) main count (length (now work)) × (4 ≤ length (now work)) ⌝ }
+    requires { ⌜ Good (now coefs) (now ends) (now table) main count (length (now work)) × RecordsFit 1 (now work) ⌝ }
     requires { ⌜ (r .0 < getD (now rests) i 0) × Missing (used (now table) count) (i + 1) (r .0) ⌝ }
     ensures { λ b. ⌜ NodeOk (now (coefs .entry)) (now (ends .entry)) i (r .0) (now (table .entry)) count (length (now (work .entry))) (now (table .exit)) b ⌝ }
 {
@@ -83,7 +83,7 @@ fn build_row<'a>(
     r: Remainder,
 ) -> Built
     requires { ⌜ Ready (now coefs) (now ends) (now rests) i ⌝ }
-    requires { ⌜ Good (now coefs) (now ends) (now table) main count (length (now work)) × (4 ≤ length (now work)) ⌝ }
+    requires { ⌜ Good (now coefs) (now ends) (now table) main count (length (now work)) × RecordsFit 1 (now work) ⌝ }
     requires { ⌜ r .0 < getD (now rests) i 0 ⌝ }
     ensures { λ b. ⌜ RowOk (now (coefs .entry)) (now (ends .entry)) i (r .0) 0 (ends′ 0 (getD (now (rests .entry)) i 0 - 1)) (now (table .entry)) count (length (now (work .entry))) (now (table .exit)) b ⌝ }
 {
@@ -110,7 +110,7 @@ fn build_row<'a>(
     Built::Done(m, n, e)
 }
 
-// The diagram of an undecided bound, built into the table by way of the lent words: its records in order, the fourth word of each 0.
+// The diagram of an undecided bound, built into the table by way of the lent words: its records in order, the first place of each 0.
 pub fn build<'a>(
     coefs: &'a [u32],
     ends: &'a [u32],
@@ -120,7 +120,7 @@ pub fn build<'a>(
     bound: Remainder,
 ) -> Root
     requires { ⌜ Lent (now coefs) (now ends) (now rests) ⌝ }
-    requires { ⌜ (4 ≤ length (now work)) × (bound .0 < R (levelsOf (now coefs) (now ends))) ⌝ }
+    requires { ⌜ RecordsFit 1 (now work) × (bound .0 < R (levelsOf (now coefs) (now ends))) ⌝ }
     ensures { λ b. ⌜ RootOk (now (coefs .entry)) (now (ends .entry)) (bound .0) (now (table .entry)) (now (table .exit)) b ⌝ }
 {
     search_runs::prepare(work, rests);

@@ -1,9 +1,9 @@
 -- PUTTING A NODE'S RECORD IN, over the words of the lent table. Assumes nothing.
 use mathlib.Core.Path.{_≡_}
 use mathlib.Core.List.{List}
-use Prim.Native.Nat.{ℕ, _+_, _*_, _/_, _≤_}
+use Prim.Native.Nat.{ℕ, _+_, _/_, _≤_}
 use lib.ListN.{length}
-use Rattle.word.specs.Record.{used}
+use Rattle.word.specs.Record.{used, recordWords, RecordsFit}
 use Rattle.search_runs.specs.Runs.{secondRun, Apart, Runs, Settled, PutIn}
 use Rattle.builder_steps.specs.declared.Ends.{Ends}
 use Rattle.builder_steps.specs.declared.Built.{Built}
@@ -21,8 +21,8 @@ pub record Put (t : List ℕ) (m count w level r : ℕ) (e : Ends) (t′ : List 
   pub put : PutIn between m′ count level r (e .lower) (e .upper) t′
   pub one : n ≡ count + 1
   pub same : e′ ≡ e
-  pub room : n * 4 ≤ length t
+  pub room : RecordsFit n t
 
 abbrev pub PutOk : List ℕ → ℕ → ℕ → ℕ → ℕ → ℕ → Ends → List ℕ → Built → Type 0
 PutOk t m count w level r e t′ (Done m′ n e′) = Put t m count w level r e t′ m′ n e′
-PutOk t m count w level r e t′ Full = (length t / 4 ≤ count) × (t′ ≡ t)
+PutOk t m count w level r e t′ Full = (length t / recordWords ≤ count) × (t′ ≡ t)

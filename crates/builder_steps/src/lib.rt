@@ -1,11 +1,13 @@
 // The steps of building that stand outside its cycle of calls: where a child leads, what its label does to the row's, and putting a node's record in.
+use word::LOWER;
 use word::NodeNumber;
 use word::RECORD;
 use word::Remainder;
+use word::UPPER;
 ghost use mathlib.Core.Path.{_≡_};
-ghost use Prim.Native.Nat.{_+_, _-_, _*_, _/_, _<_, _≤_, min, max};
+ghost use Prim.Native.Nat.{suc, _+_, _-_, _*_, _<_, min, max};
 ghost use lib.ListN.{length, getD};
-ghost use Rattle.word.specs.Record.{used};
+ghost use Rattle.word.specs.Record.{used, RecordsFit, recordAt};
 ghost use Rattle.finder.specs.Find.{Missing};
 ghost use Rattle.builder_steps.specs.Branch.{ends as ends′, branchOf, cutOf, overlapOf};
 ghost use Rattle.builder_steps.specs.Put.{Two, PutOk};
@@ -101,13 +103,13 @@ pub fn overlap(e: Ends, s: Ends, m: u32) -> Ends
 
 // The label of a record.
 pub fn label_at(table: &[u32], k: NodeNumber) -> Ends
-    requires { ⌜ k .0 * 4 + 3 < length (now table) ⌝ }
-    ensures { λ x. ⌜ x ≡ ends′ (getD (now (table .entry)) (k .0 * 4 + 1) 0) (getD (now (table .entry)) (k .0 * 4 + 2) 0) ⌝ }
+    requires { ⌜ RecordsFit (suc (k .0)) (now table) ⌝ }
+    ensures { λ x. ⌜ x ≡ ends′ (recordAt (now (table .entry)) (k .0) .lower) (recordAt (now (table .entry)) (k .0) .upper) ⌝ }
 {
     let b = k.0 * RECORD;
     Ends {
-        lower: table[b + 1],
-        upper: table[b + 2],
+        lower: table[b + LOWER],
+        upper: table[b + UPPER],
     }
 }
 
@@ -123,7 +125,7 @@ pub fn put(
     r: Remainder,
     e: Ends,
 ) -> Built
-    requires { ⌜ Two (now table) main count (length (now work)) × (4 ≤ length (now work)) × Missing (used (now table) count) level (r .0) ⌝ }
+    requires { ⌜ Two (now table) main count (length (now work)) × RecordsFit 1 (now work) × Missing (used (now table) count) level (r .0) ⌝ }
     ensures { λ b. ⌜ PutOk (now (table .entry)) main count (length (now (work .entry))) level (r .0) e (now (table .exit)) b ⌝ }
 {
     if table.len() / RECORD <= count {

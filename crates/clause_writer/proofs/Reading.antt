@@ -2,13 +2,13 @@
 -- Assumes nothing.
 use mathlib.Core.Path.{_≡_, refl, sym, ap, ap₂, subst, _∙_}
 use mathlib.Core.List.{List, [], _∷_, _++_, map}
-use Prim.Native.Nat.{ℕ, zero, suc, _+_, _*_, _-_, _≤_, _<_}
+use Prim.Native.Nat.{ℕ, zero, suc, _+_, _-_, _≤_, _<_}
 use native.Mathlib.Omega.{arith}
 use lib.ListN.{length, getD, take, drop, length-append, length-map, length-take, List·getD-map}
 use lib.Seq.{take-nil, drop-drop, take-at, take-take, drop-at, slice}
 use Rattle.word.specs.Word.{lastBoolean}
 use Rattle.word.specs.Edge.{Edge, F, T, to, edgeWord, edgeBoolean, edgeIn}
-use Rattle.word.specs.Record.{Record, records, noRecord, used}
+use Rattle.word.specs.Record.{Record, records, noRecord, used, RecordsFit, recordAt}
 use Rattle.word.proofs.Kept.{Parts}
 use Rattle.clause.specs.Meaning.{wordsOf}
 use Rattle.clause.proofs.Written.{words-append}
@@ -21,7 +21,7 @@ use Rattle.diagram.proofs.Written.{recordsFrom-length, record-drawn, place-insi
 use Rattle.encoding.specs.Boolean.{orders, ordersBefore}
 use Rattle.encoding.specs.Pattern.{ordersOf, unitsOf, nodesOf, clauseWords, wordCount}
 use Rattle.encoding.proofs.Fits.{words-count}
-use Rattle.word.proofs.Flat.{recordAt, records-length, used-at}
+use Rattle.word.proofs.Flat.{records-length, used-at}
 use Rattle.clause_buffer.specs.Written.{Room, WroteWords}
 use Rattle.clause_writer.specs.Drawing.{Drawing, Listed}
 use Rattle.clause_buffer.specs.Ended.{ended}
@@ -127,7 +127,7 @@ module _ {ls : List Level} {ns : List Node} {ds : List ℕ} {D : ℕ} {t : List 
   pub booleans : D ≡ orders (ended ds)
   booleans = d .booleans ∙ sym (orders-ended ls) ∙ ap (λ (l : List ℕ). orders (ended l)) (d .ends)
 
-  long : count * 4 ≤ length t
+  long : RecordsFit count t
   long = omega (arith, ap length (d .records), length-take count (records t), records-length t, recordsFrom-length 0 ns, d .counted)
 
   edges-long : length (edgeWords ns) ≤ length es

@@ -3,7 +3,7 @@
 use mathlib.Core.Path.{_≡_, sym, ap, subst}
 use mathlib.Core.List.{List, [], _∷_, map}
 use mathlib.Core.Bool.{true, false}
-use Prim.Native.Nat.{ℕ, zero, suc, _+_, _*_, _-_, _≤_, _<_}
+use Prim.Native.Nat.{ℕ, zero, suc, _+_, _-_, _≤_, _<_}
 use native.Mathlib.Nat.{not-suc-le-zero, le-of-suc-le-suc}
 use native.Mathlib.Numerals.{add-one}
 use native.Mathlib.Omega.{arith}
@@ -11,13 +11,13 @@ use lib.ListN.{length, getD, take, drop, length-take, length-drop, drop-of-lengt
 use lib.Seq.{drop-cons}
 use Rattle.word.specs.Word.{lastBoolean, boolean, literalWord, endWord}
 use Rattle.word.specs.Edge.{to, edgeBoolean, edgeIn}
-use Rattle.word.specs.Record.{Record, used, noRecord}
+use Rattle.word.specs.Record.{Record, used, noRecord, recordAt}
 use Rattle.word.proofs.Kept.{Parts}
 use Rattle.clause.specs.Meaning.{wordsOf}
 use Rattle.clause.proofs.Written.{words-append}
 use Rattle.encoding.specs.Boolean.{orders, ordersBefore}
 use Rattle.encoding.specs.Pattern.{childrenOf, nodeOf, nodesOf}
-use Rattle.word.proofs.Flat.{recordAt, used-length, used-at}
+use Rattle.word.proofs.Flat.{used-length, used-at}
 use Rattle.clause_buffer.specs.Ended.{ended}
 use Rattle.diagram.specs.Flat.{endAt}
 use Rattle.clause_writer.specs.Held.{childWords, nodeFrom, Numbered, Held}
@@ -89,7 +89,7 @@ pub record Asked (D : ℕ) (ws : List ℕ) (k b : ℕ) : Type 0 where
   pub known : Numbered D ws
 
 module _ {ds : List ℕ} {D : ℕ} {t : List ℕ} {count : ℕ} {es : List ℕ} (held : Held ds D t count es) where
-  pub nodes-turn : (k : ℕ) {b : ℕ} → k < count → b ≡ ordersBefore (ended ds) (getD t (k * 4) 0 - 1)
+  pub nodes-turn : (k : ℕ) {b : ℕ} → k < count → b ≡ ordersBefore (ended ds) (recordAt t k .level - 1)
       → Parts (nodesLeft ds D t count es k) (wordsOf (nodeOf D (edgeBoolean D (to k)) (suc b) (map edgeIn (part ds es (recordAt t k)))))
       (nodesLeft ds D t count es (k + 1))
   nodes-turn k {b} h e =
@@ -98,7 +98,7 @@ module _ {ds : List ℕ} {D : ℕ} {t : List ℕ} {count : ℕ} {es : List ℕ} 
       record {
         joined =
             rw (drop-cons (used t count) k x n, used-at t count (held .long) k h, add-one k, e, part-is ds es (recordAt t k))
-            (words-append (nodeOf D (edgeBoolean D (to k)) (suc (ordersBefore (ended ds) (getD t (k * 4) 0 - 1))) (map edgeIn (childWords ds es (recordAt t k))))
+            (words-append (nodeOf D (edgeBoolean D (to k)) (suc (ordersBefore (ended ds) (recordAt t k .level - 1))) (map edgeIn (childWords ds es (recordAt t k))))
             (nodesOf (ended ds) D (suc k) (map (nodeFrom ds es) (drop (suc k) (used t count)))));
       }
 
@@ -107,7 +107,7 @@ module _ {ds : List ℕ} {D : ℕ} {t : List ℕ} {count : ℕ} {es : List ℕ} 
       let n : length (used t count) ≤ k = omega (arith, used-length t count (held .long)) in
       ap (λ (l : List Record). wordsOf (nodesOf (ended ds) D k (map (nodeFrom ds es) l))) (drop-of-length-le (used t count) n)
 
-  pub node-asked : (k : ℕ) {b : ℕ} → k < count → b ≡ ordersBefore (ended ds) (getD t (k * 4) 0 - 1) → Asked D (part ds es (recordAt t k)) k b
+  pub node-asked : (k : ℕ) {b : ℕ} → k < count → b ≡ ordersBefore (ended ds) (recordAt t k .level - 1) → Asked D (part ds es (recordAt t k)) k b
   node-asked k {b} h e =
       let x = recordAt t k in
       let s = held .each k h in

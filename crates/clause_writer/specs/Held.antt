@@ -2,12 +2,12 @@
 -- Assumes nothing.
 use mathlib.Core.Path.{_≡_}
 use mathlib.Core.List.{List, map}
-use Prim.Native.Nat.{ℕ, suc, _+_, _*_, _≤_, _<_}
+use Prim.Native.Nat.{ℕ, suc, _+_, _≤_, _<_}
 use lib.ListN.{length, getD, take, drop}
 use Rattle.clause_buffer.specs.Ended.{ended}
 use Rattle.word.specs.Word.{lastBoolean}
 use Rattle.word.specs.Edge.{edgeBoolean, edgeIn}
-use Rattle.word.specs.Record.{Record, used}
+use Rattle.word.specs.Record.{Record, used, RecordsFit, recordAt}
 use Rattle.diagram.specs.Table.{Node}
 use Rattle.diagram.specs.Flat.{endAt}
 use Rattle.encoding.specs.Boolean.{orders}
@@ -44,6 +44,6 @@ pub record Sound (ds : List ℕ) (D : ℕ) (es : List ℕ) (x : Record) : Type 0
 pub record Held (ds : List ℕ) (D : ℕ) (t : List ℕ) (count : ℕ) (es : List ℕ) : Type 0 where
   pub booleans : D ≡ orders (ended ds)
   pub numbers : D + 2 + count ≤ lastBoolean
-  pub long : count * 4 ≤ length t
+  pub long : RecordsFit count t
   pub each : (k : ℕ) → k < count
-      → Sound ds D es (record { level = getD t (k * 4) 0; lower = getD t (k * 4 + 1) 0; upper = getD t (k * 4 + 2) 0; first = getD t (k * 4 + 3) 0 })
+      → Sound ds D es (recordAt t k)

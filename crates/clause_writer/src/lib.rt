@@ -1,12 +1,13 @@
 // The clause list of a drawing, written into a lent buffer.
 use word::Child;
+use word::FIRST;
 use word::NodeNumber;
 use word::RECORD;
 use word::Variable;
 ghost use mathlib.Core.Path.{_≡_};
 ghost use mathlib.Core.List.{List, map};
 ghost use mathlib.Core.Bool.{true};
-ghost use Prim.Native.Nat.{suc, _+_, _-_, _≤_};
+ghost use Prim.Native.Nat.{suc, _+_, _≤_};
 ghost use lib.ListN.{length};
 ghost use Rattle.word.specs.Word.{lastBoolean, literalWord};
 ghost use Rattle.word.specs.Edge.{to, edgeBoolean, edgeOf, edgeIn};
@@ -105,7 +106,7 @@ fn write_nodes(
     let mut k = 0;
     'nodes: while k < count {
         let next = table[k * RECORD] as usize - 1;
-        let first = table[k * RECORD + 3] as usize;
+        let first = table[k * RECORD + FIRST] as usize;
         let past = first + ends[next] as usize + 1;
         earlier = before_level(ends, level, earlier, next);
         level = next;

@@ -1,13 +1,13 @@
 -- WHAT THE PASSES HAND ON: a built table to the edge list, a linked one to the clauses, and the written lists to the result with zeros behind. Assumes nothing.
 use mathlib.Core.Path.{_≡_, refl, sym, ap, subst, _∙_}
 use mathlib.Core.List.{List, [], _∷_, map}
-use Prim.Native.Nat.{ℕ, _*_, _-_, _≤_}
+use Prim.Native.Nat.{ℕ, _*_, _≤_}
 use native.Mathlib.Omega.{arith}
 use lib.IntN.{ℤ}
 use lib.ListN.{length, take}
 use Rattle.diagram.specs.Constraint.{mostOrders}
 use Rattle.word.specs.Edge.{Edge}
-use Rattle.word.specs.Record.{flat}
+use Rattle.word.specs.Record.{flat, recordWords}
 use Rattle.word.specs.Padded.{cleared}
 use Rattle.word.proofs.Records.{flat-length}
 use Rattle.word.proofs.Cleared.{cleared-padded}
@@ -77,16 +77,16 @@ module _ (cs ds rs : List ℕ) (L : Lent cs ds rs) (a : ℤ) where
     -- to the result
     pub lists-filled : (n : Counts) (es ws t′ es′ ws′ t″ es″ ws″ : List ℕ) (r : ℕ) → count ≡ n .nodes → Roomy (constraintOf cs ds a) n es ws → Linked cs ds a t count es t′ es′
         → Listed ls ns e ws ws′ r
-        → t″ ≡ cleared (count * 4) t′ → es″ ≡ cleared (n .edges) es′ → ws″ ≡ cleared (n .words) ws′
+        → t″ ≡ cleared (count * recordWords) t′ → es″ ≡ cleared (n .edges) es′ → ws″ ≡ cleared (n .words) ws′
         → Filled (constraintOf cs ds a) t es ws t″ es″ ws″
     lists-filled n es ws t′ es′ ws′ t″ es″ ws″ r q M K W p₁ p₂ p₃ =
         record {
-          table = p₁ ∙ cleared-padded t′ (tableWords ns) (length t) (count * 4) (used-words t′ count (let h = B .room in omega arith) ∙ ap flat (K .records)) table-long (K .table-kept);
+          table = p₁ ∙ cleared-padded t′ (tableWords ns) (length t) (count * recordWords) (used-words t′ count (let h = B .room in omega arith) ∙ ap flat (K .records)) table-long (K .table-kept);
           edges = p₂ ∙ cleared-padded es′ (edgeWords ns) (length es) (n .edges) (ap (λ (k : ℕ). take k es′) (M .edges) ∙ K .edges) (edges-length ∙ sym (M .edges)) (K .edges-kept);
           clauses = p₃ ∙ cleared-padded ws′ (clauseWords ls top ns) (length ws) (n .words) words-front (words-length ∙ sym (M .words)) (W .kept);
         }
       where
-        table-long : length (tableWords ns) ≡ count * 4
+        table-long : length (tableWords ns) ≡ count * recordWords
         table-long = omega (arith, flat-length (recordsFrom 0 ns), recordsFrom-length 0 ns, B .counted)
 
         words-front : take (n .words) ws′ ≡ clauseWords ls top ns

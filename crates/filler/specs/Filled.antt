@@ -6,7 +6,7 @@ use lib.IntN.{ℤ}
 use lib.ListN.{length}
 use Rattle.word.specs.Edge.{Edge}
 use Rattle.word.specs.Padded.{padded}
-use Rattle.word.specs.Record.{Record, mostNodes, used}
+use Rattle.word.specs.Record.{Record, mostNodes, used, RecordsFit}
 use Rattle.diagram.specs.Level.{Level}
 use Rattle.diagram.specs.Table.{Node, table, root}
 use Rattle.diagram.specs.Flat.{recordOf, tableWords, edgeWords, edgeCount}
@@ -44,7 +44,7 @@ pub record Tabled (c : Constraint) (D : ℕ) (top : Edge) (t : List ℕ) (count 
   pub booleans : D ≡ orders (levelsIn c)
   pub root : top ≡ rootFor c
   pub few : count ≤ mostNodes
-  pub room : count * 4 ≤ length t
+  pub room : RecordsFit count t
   pub counted : count ≡ length (nodesFor c)
   pub records : used t count ≡ map (recordOf 0) (nodesFor c)
 

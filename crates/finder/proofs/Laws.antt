@@ -3,16 +3,16 @@
 use mathlib.Core.Path.{_≡_, refl, sym, ap, _∙_}
 use mathlib.Core.List.{List}
 use mathlib.Core.Bool.{Bool, true, false, cond}
-use Prim.Native.Nat.{ℕ, suc, _+_, _*_, _/_, _≤_, _<_}
+use Prim.Native.Nat.{ℕ, suc, _+_, _/_, _≤_, _<_}
 use native.Mathlib.Numerals.{add-one}
 use native.Mathlib.Omega.{arith}
 use lib.ListN.{length, getD, take, drop, drop-of-length-le}
 use lib.Seq.{drop-cons, take-all, length-take-le}
-use Rattle.word.specs.Record.{Record, records}
+use Rattle.word.specs.Record.{Record, records, recordWords, recordAt, recordFrom}
 use Rattle.finder.specs.declared.Found.{Found}
 use Rattle.finder.specs.declared.Found.the-variants.{At, Nothing}
 use Rattle.finder.specs.Find.{fieldsHold, holds, fieldsBefore, liesBefore, bitOf, gapIn, findFrom, findIn}
-use Rattle.word.proofs.Flat.{recordFrom, records-length, record-at}
+use Rattle.word.proofs.Flat.{records-length, record-at}
 use Rattle.finder.proofs.Gap.{gap-next, gap-most}
 
 module _ (xs : List Record) (wanted r : ℕ) where
@@ -55,17 +55,17 @@ module _ (xs : List Record) (wanted r : ℕ) where
 
 -- The same turns on the words of record k.
 module _ (t : List ℕ) (wanted r k gap : ℕ) (p : Past (records t) wanted r k gap) where
-  pub find-end : length t / 4 ≤ k → Nothing gap ≡ findIn (records t) wanted r
+  pub find-end : length t / recordWords ≤ k → Nothing gap ≡ findIn (records t) wanted r
   find-end h = past-end (records t) wanted r k gap p (omega (arith, records-length t))
 
-  module _ (inside : k < length t / 4) (b : Bool) (e : b ≡ fieldsHold (getD t (k * 4) 0) (getD t (k * 4 + 1) 0) (getD t (k * 4 + 2) 0) wanted r) where
+  module _ (inside : k < length t / recordWords) (b : Bool) (e : b ≡ fieldsHold (recordAt t k .level) (recordAt t k .lower) (recordAt t k .upper) wanted r) where
     here : k < length (records t)
     here = omega (arith, records-length t)
 
     pub find-hit : b ≡ true → At (record { 0 = k }) ≡ findIn (records t) wanted r
     find-hit f = past-hit (records t) wanted r k gap p (recordFrom 0 0 0 0) here (rw (record-at t k (recordFrom 0 0 0 0) here) (sym e ∙ f))
 
-    pub find-miss : b ≡ false → (c : ℕ) → c ≡ bitOf (fieldsBefore (getD t (k * 4) 0) (getD t (k * 4 + 2) 0) wanted r) → Past (records t) wanted r (k + 1) (gap + c)
+    pub find-miss : b ≡ false → (c : ℕ) → c ≡ bitOf (fieldsBefore (recordAt t k .level) (recordAt t k .upper) wanted r) → Past (records t) wanted r (k + 1) (gap + c)
     find-miss f c q =
         let at = record-at t k (recordFrom 0 0 0 0) here in
         rw q (rw at at (past-miss (records t) wanted r k gap p (recordFrom 0 0 0 0) here (rw at (sym e ∙ f))))

@@ -1,7 +1,9 @@
 // The finder over a flat table of node records.
+use word::LOWER;
 use word::NodeNumber;
 use word::RECORD;
 use word::Remainder;
+use word::UPPER;
 ghost use mathlib.Core.Path.{_≡_};
 ghost use lib.Dec.{ltb};
 ghost use Rattle.word.specs.Gives.{Gives};
@@ -59,10 +61,10 @@ pub fn find(table: &[u32], level: u32, r: Remainder) -> Found
     let mut gap = 0;
     while k < n {
         let b = k * RECORD;
-        if holds(table[b], table[b + 1], table[b + 2], level, r) {
+        if holds(table[b], table[b + LOWER], table[b + UPPER], level, r) {
             return Found::At(NodeNumber(k));
         }
-        gap += lies_before(table[b], table[b + 2], level, r);
+        gap += lies_before(table[b], table[b + UPPER], level, r);
         k += 1;
     }
     Found::Nothing(gap)

@@ -4,7 +4,7 @@ use Prim.Native.Nat.{ℕ}
 use Rattle.word.specs.Record.{Record, flat}
 use Rattle.finder_records.specs.declared.Node.{Node}
 
--- The record with the same four fields.
+-- The record with the same fields.
 abbrev pub fieldsOf : Node → Record
 fieldsOf n = record { level = n .level; lower = n .lower; upper = n .upper; first = n .first }
 

@@ -6,7 +6,7 @@ use Prim.Native.Nat.{ℕ, suc, _+_, _*_, _-_, _≤_, _<_}
 use native.Mathlib.Omega.{arith}
 use lib.IntN.{ℤ}
 use lib.ListN.{length, getD, set}
-use Rattle.word.specs.Record.{used, mostNodes}
+use Rattle.word.specs.Record.{used, mostNodes, recordWords, RecordsFit, recordAt, firstWord}
 use Rattle.diagram.specs.Constraint.{mostTerms, lastEnd, lastCoefficient}
 use Rattle.search_ordered.specs.Order.{Sorted}
 use Rattle.word.proofs.Flat.{used-length}
@@ -25,17 +25,17 @@ pub record Facts (cs ds rs : List ℕ) (count : ℕ) (t es : List ℕ) (first k 
   pub rests-long : length rs ≡ suc (length cs)
   pub countable : Countable ds t count
   pub here : OneEnd ds t k
-  pub coef-small : getD cs (getD t (k * 4) 0 - 1) 0 ≤ lastCoefficient
+  pub coef-small : getD cs (recordAt t k .level - 1) 0 ≤ lastCoefficient
   pub first-small : first ≤ (lastEnd + 1) * mostNodes
-  pub fits : first + (getD ds (getD t (k * 4) 0 - 1) 0 + 1) ≤ length es
-  pub sorted : Sorted (used (set t (k * 4 + 3) first) count)
+  pub fits : first + (getD ds (recordAt t k .level - 1) 0 + 1) ≤ length es
+  pub sorted : Sorted (used (set t (k * recordWords + firstWord) first) count)
 
 pub facts : {cs ds rs t₀ es₀ : List ℕ} {count : ℕ} {t es : List ℕ} {first k : ℕ} → Lent cs ds rs → (a : ℤ) × Finished cs ds a t₀ count es₀
     → Turn cs ds rs t₀ es₀ count t es first k → k < count → Facts cs ds rs count t es first k
 facts {cs} {ds} {rs} {t₀} {es₀} {count} {t} {es} {first} {k} L p so h =
     let r = ready cs ds rs L (p .0) t₀ count es₀ (p .1) in
     let b = r .countable in
-    let room : count * 4 ≤ length t = omega (arith, b .room, so .long) in
+    let room : RecordsFit count t = omega (arith, b .room, so .long) in
     let now : Countable ds t count =
     record { few = b .few; room = room; ends = b .ends; levels = levelled-alike (length ds) (used t₀ count) (used t count) (sym (so .alike)) (b .levels) } in
     let o : OneEnd ds t k = one-end now h in
@@ -45,8 +45,8 @@ facts {cs} {ds} {rs} {t₀} {es₀} {count} {t} {es} {first} {k} L p so h =
       rests-long = rests-count cs ds rs L;
       countable = now;
       here = o;
-      coef-small = term-at cs ds rs L (getD t (k * 4) 0 - 1) (omega (arith, o .low, o .high, L .ends)) .3;
+      coef-small = term-at cs ds rs L (recordAt t k .level - 1) (omega (arith, o .low, o .high, L .ends)) .3;
       first-small = omega (arith, so .place, sum-fits ds (used t₀ count) (b .ends) (b .levels), used-length t₀ count (b .room), b .few);
       fits = row-fits cs ds rs t₀ es₀ count t es first k (b .room) so h (r .wide);
-      sorted = sorted-alike (used t₀ count) (used (set t (k * 4 + 3) first) count) (sym (alike-set t count room k h first ∙ so .alike)) (r .sorted);
+      sorted = sorted-alike (used t₀ count) (used (set t (k * recordWords + firstWord) first) count) (sym (alike-set t count room k h first ∙ so .alike)) (r .sorted);
     }

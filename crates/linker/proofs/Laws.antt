@@ -6,7 +6,7 @@ use Prim.Native.Nat.{ℕ, zero, suc, _+_, _*_, _-_, _≤_, _<_}
 use native.Mathlib.Omega.{arith}
 use lib.IntN.{ℤ}
 use lib.ListN.{length, getD, length-map}
-use Rattle.word.specs.Record.{Record, noRecord, used, mostNodes}
+use Rattle.word.specs.Record.{Record, noRecord, used, mostNodes, RecordsFit}
 use Rattle.diagram.specs.Table.{Node, noNode}
 use Rattle.diagram.specs.Claim.{nodeAt, levelAt, OfLevel}
 use Rattle.diagram.specs.Constraint.{Term, levels, lastEnd, AllLimited}
@@ -63,7 +63,7 @@ module _ (cs ds rs : List ℕ) (L : Lent cs ds rs) where
       rw (map-at (recordOf f) ns k noRecord noNode l) (omega (arith, x .2 .1), omega (arith, x .2 .1, x .1, L .ends))
 
   -- THE SUM OVER THE TABLE may be taken
-  pub table-countable : (f : ℕ) (a : ℤ) (t : List ℕ) (count : ℕ) → count ≤ mostNodes → count * 4 ≤ length t → used t count ≡ map (recordOf f) (slicedNodes cs ds a) → Countable ds t count
+  pub table-countable : (f : ℕ) (a : ℤ) (t : List ℕ) (count : ℕ) → count ≤ mostNodes → RecordsFit count t → used t count ≡ map (recordOf f) (slicedNodes cs ds a) → Countable ds t count
   table-countable f a t count h k e = record { few = h; room = k; ends = ends-fit; levels = rw e (table-levelled f a) }
 
   count-edges : (f : ℕ) (ns : List Node) → edgeCount (levelsOf cs ds) ns ≡ length ns + endSum ds (map (recordOf f) ns)

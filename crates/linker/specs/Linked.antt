@@ -5,7 +5,7 @@ use mathlib.Core.List.{List, map}
 use Prim.Native.Nat.{ℕ, _*_, _≤_}
 use lib.IntN.{ℤ}
 use lib.ListN.{length, take, drop}
-use Rattle.word.specs.Record.{mostNodes, used}
+use Rattle.word.specs.Record.{mostNodes, used, recordWords, RecordsFit}
 use Rattle.diagram.specs.Table.{Node, table}
 use Rattle.diagram.specs.Flat.{recordOf, recordsFrom, edgeWords, edgeCount}
 use Rattle.constraint.specs.Lent.{levelsOf}
@@ -17,7 +17,7 @@ slicedNodes cs ds a = table (levelsOf cs ds) a
 -- The first `count` records are the table's nodes, in order, and the edges have room.
 pub record Finished (cs ds : List ℕ) (a : ℤ) (t : List ℕ) (count : ℕ) (es : List ℕ) : Type 0 where
   pub few : count ≤ mostNodes
-  pub room : count * 4 ≤ length t
+  pub room : RecordsFit count t
   pub records : used t count ≡ map (recordOf 0) (slicedNodes cs ds a)
   pub wide : edgeCount (levelsOf cs ds) (slicedNodes cs ds a) ≤ length es
 
@@ -26,7 +26,7 @@ pub record Finished (cs ds : List ℕ) (a : ℤ) (t : List ℕ) (count : ℕ) (e
 pub record Linked (cs ds : List ℕ) (a : ℤ) (t : List ℕ) (count : ℕ) (es t′ es′ : List ℕ) : Type 0 where
   pub records : used t′ count ≡ recordsFrom 0 (slicedNodes cs ds a)
   pub edges : take (edgeCount (levelsOf cs ds) (slicedNodes cs ds a)) es′ ≡ edgeWords (slicedNodes cs ds a)
-  pub table-rest : drop (count * 4) t′ ≡ drop (count * 4) t
+  pub table-rest : drop (count * recordWords) t′ ≡ drop (count * recordWords) t
   pub edges-rest : drop (edgeCount (levelsOf cs ds) (slicedNodes cs ds a)) es′ ≡ drop (edgeCount (levelsOf cs ds) (slicedNodes cs ds a)) es
   pub table-kept : length t′ ≡ length t
   pub edges-kept : length es′ ≡ length es

@@ -1,8 +1,8 @@
 -- THE SUM OF DOMAIN ENDS over records, from which the encoder computes document 01's edge count and clause word count. Assumes nothing.
-use Prim.Native.Nat.{ℕ, _+_, _*_, _≤_, _<_}
+use Prim.Native.Nat.{ℕ, _+_, _≤_, _<_}
 use mathlib.Core.List.{List, [], _∷_}
 use lib.ListN.{length, getD}
-use Rattle.word.specs.Record.{Record, mostNodes, noRecord, used}
+use Rattle.word.specs.Record.{Record, mostNodes, noRecord, used, RecordsFit}
 use Rattle.diagram.specs.Flat.{endAt}
 use Rattle.diagram.specs.Constraint.{lastEnd}
 
@@ -22,6 +22,6 @@ EndsFit ds = (i : ℕ) → i < length ds → getD ds i 0 ≤ lastEnd
 -- What the sum over the first `count` records needs: they are within the table, and each is of a level with a domain end.
 pub record Countable (ds t : List ℕ) (count : ℕ) : Type 0 where
   pub few : count ≤ mostNodes
-  pub room : count * 4 ≤ length t
+  pub room : RecordsFit count t
   pub ends : EndsFit ds
   pub levels : Levelled (length ds) (used t count)

@@ -2,14 +2,16 @@
 use constraint::Constraint;
 use finder::Found;
 use word::Child;
+use word::FIRST;
+use word::LOWER;
 use word::RECORD;
 use word::Remainder;
 ghost use mathlib.Core.Path.{_≡_};
-ghost use Prim.Native.Nat.{_+_, _*_, _≤_};
+ghost use Prim.Native.Nat.{_+_, _≤_};
 ghost use lib.IntN.{ℤ, subℕ};
 ghost use lib.ListN.{length};
 ghost use lib.Seq.{paste};
-ghost use Rattle.word.specs.Record.{mostNodes, used};
+ghost use Rattle.word.specs.Record.{mostNodes, used, RecordsFit};
 ghost use Rattle.diagram.specs.Constraint.{lastEnd, lastCoefficient};
 ghost use Rattle.word.specs.Edge.{edgeOf};
 ghost use Rattle.search_ordered.specs.Order.{Sorted};
@@ -47,7 +49,7 @@ fn child(
     lower: u32,
     taken: u32,
 ) -> Child
-    requires { ⌜ (count * 4 ≤ length (now table)) × Sorted (used (now table) count) ⌝ }
+    requires { ⌜ RecordsFit count (now table) × Sorted (used (now table) count) ⌝ }
     ensures { λ c. ⌜ edgeOf c ≡ leadsTo (used (now (table .entry)) count) level top (subℕ lower taken) ⌝ }
 {
     if lower < taken {
@@ -77,7 +79,7 @@ fn row(
     edges: &mut [u32],
     first: usize,
 )
-    requires { ⌜ (count ≤ mostNodes) × (count * 4 ≤ length (now table)) × Sorted (used (now table) count) ⌝ }
+    requires { ⌜ (count ≤ mostNodes) × RecordsFit count (now table) × Sorted (used (now table) count) ⌝ }
     requires { ⌜ (coef ≤ lastCoefficient) × (end ≤ lastEnd) × (first + (end + 1) ≤ length (now edges)) ⌝ }
     ensures { λ _. ⌜ now (edges .exit) ≡ paste (now (edges .entry)) first (rowOf (used (now (table .entry)) count) level top coef end lower) (end + 1) ⌝ }
 {
@@ -113,10 +115,10 @@ pub fn link<'a>(
     while k < count {
         let b = k * RECORD;
         let i = table[b] - 1;
-        let lower = table[b + 1];
+        let lower = table[b + LOWER];
         let at = i as usize;
         let end = ends[at];
-        table[b + 3] = first as u32;
+        table[b + FIRST] = first as u32;
         row(
             table,
             count,

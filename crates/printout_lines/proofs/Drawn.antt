@@ -2,20 +2,19 @@
 -- Assumes nothing.
 use mathlib.Core.Path.{_≡_, refl, sym, ap, ap₂, _∙_}
 use mathlib.Core.List.{List, [], _∷_, _++_, map, append-assoc}
-use Prim.Native.Nat.{ℕ, zero, suc, _+_, _*_, _-_, _≤_, _<_}
+use Prim.Native.Nat.{ℕ, zero, suc, _+_, _-_, _≤_, _<_}
 use native.Mathlib.Nat.{not-suc-le-zero, le-of-suc-le-suc}
 use native.Mathlib.Numerals.{add-one}
 use native.Mathlib.Omega.{arith}
-use lib.ListN.{length, getD, take, drop, length-append, length-map, length-take, take-append-drop, drop-of-length-le}
+use lib.ListN.{length, take, drop, length-append, length-map, length-take, take-append-drop, drop-of-length-le}
 use lib.Seq.{drop-cons, take-at, drop-at, drop-drop}
 use Rattle.word.specs.Edge.{edgeWord, edgeIn}
-use Rattle.word.specs.Record.{Record, noRecord}
+use Rattle.word.specs.Record.{Record, noRecord, recordAt}
 use Rattle.word.proofs.Kept.{Parts}
 use Rattle.diagram.specs.Table.{Node, noNode}
 use Rattle.diagram.specs.Claim.{nodeAt}
 use Rattle.diagram.specs.Flat.{recordOf, edgeWords, firstPlace}
 use Rattle.diagram.proofs.Written.{record-drawn, place-inside, edges-in}
-use Rattle.word.proofs.Flat.{recordAt}
 use Rattle.printout_lines.specs.Text.{nodeLine, nodeLines}
 use Rattle.printout_lines.specs.Lying.{Lying}
 
@@ -58,7 +57,7 @@ module _ {ns : List Node} {t : List ℕ} {count : ℕ} {es : List ℕ} {total : 
   record-is : (k : ℕ) → k < count → recordAt t k ≡ recordOf (0 + firstPlace ns k) (nodeAt ns k)
   record-is = record-drawn t count ns (l .room) (l .records) (l .counted)
 
-  pub first-is : (k : ℕ) → k < count → getD t (k * 4 + 3) 0 ≡ firstPlace ns k
+  pub first-is : (k : ℕ) → k < count → recordAt t k .first ≡ firstPlace ns k
   first-is k h = omega (arith, ap (λ (x : Record). x .first) (record-is k h))
 
   total-is : total ≡ length (edgeWords ns)
@@ -88,8 +87,8 @@ module _ {ns : List Node} {t : List ℕ} {count : ℕ} {es : List ℕ} {total : 
   abbrev pub heldNode : ℕ → ℕ → ℕ → Node
   heldNode k first past =
       record {
-        level = getD t (k * 4) 0;
-        lab = record { lower = getD t (k * 4 + 1) 0; upper = getD t (k * 4 + 2) 0 };
+        level = recordAt t k .level;
+        lab = record { lower = recordAt t k .lower; upper = recordAt t k .upper };
         children = map edgeIn (take (past - first) (drop first es));
       }
 

@@ -1,20 +1,20 @@
 -- A DRAWING IN LENT MEMORY, for what our own functions promise each other. Assumes nothing.
 use mathlib.Core.Path.{_≡_}
 use mathlib.Core.List.{List}
-use Prim.Native.Nat.{ℕ, _*_, _≤_, _<_}
+use Prim.Native.Nat.{ℕ, _≤_, _<_}
 use lib.ListN.{length, getD, take}
 use Rattle.word.specs.Edge.{F}
 use Rattle.diagram.specs.Table.{Node}
 use Rattle.diagram.specs.Claim.{nodeAt}
 use Rattle.diagram.specs.Flat.{recordsFrom, edgeWords, Small}
-use Rattle.word.specs.Record.{used}
+use Rattle.word.specs.Record.{used, RecordsFit}
 use Rattle.encoder_levels.specs.declared.Encoded.{Encoded}
 use Rattle.encoder.specs.Promise.{WhenAccepted}
 
 -- The first `count` records of the table t and the first `total` words of the edge list are those of the nodes.
 pub record Lying (ns : List Node) (t : List ℕ) (count : ℕ) (es : List ℕ) (total : ℕ) : Type 0 where
   pub counted : count ≡ length ns
-  pub room : count * 4 ≤ length t
+  pub room : RecordsFit count t
   pub records : used t count ≡ recordsFrom 0 ns
   pub wide : total ≤ length es
   pub edges : take total es ≡ edgeWords ns

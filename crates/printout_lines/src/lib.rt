@@ -2,12 +2,15 @@
 use filler::Counts;
 use refusal::Refusal;
 use word::Child;
+use word::FIRST;
+use word::LOWER;
 use word::NodeNumber;
 use word::RECORD;
+use word::UPPER;
 ghost use mathlib.Core.Path.{_≡_};
 ghost use mathlib.Core.List.{List, _++_, map};
-ghost use Prim.Native.Nat.{ℕ, _+_, _*_, _≤_};
-ghost use lib.ListN.{length};
+ghost use Prim.Native.Nat.{ℕ, _≤_};
+ghost use Rattle.word.specs.Record.{RecordsFit};
 ghost use Rattle.diagram.specs.Table.{Node};
 ghost use Rattle.word.specs.Edge.{edgeIn};
 ghost use Rattle.diagram.specs.Flat.{firstPlace};
@@ -71,11 +74,11 @@ fn put_node(
 // The place of a node's first edge; for the number behind the last node, the number of edges.
 fn first_edge(table: &[u32], count: usize, total: usize, k: NodeNumber) -> usize
     requires { ⌜ k .0 ≤ count ⌝ }
-    requires { ⌜ count * 4 ≤ length (now table) ⌝ }
+    requires { ⌜ RecordsFit count (now table) ⌝ }
     ensures { λ r. ⌜ ((ns : List Node) (es : List ℕ) → Lying ns (now (table .entry)) count es total → r ≡ firstPlace ns (k .0)) ⌝ }
 {
     if k.0 < count {
-        table[k.0 * RECORD + 3] as usize
+        table[k.0 * RECORD + FIRST] as usize
     } else {
         total
     }
@@ -105,8 +108,8 @@ fn put_nodes(
             at,
             NodeNumber(node),
             table[b],
-            table[b + 1],
-            table[b + 2],
+            table[b + LOWER],
+            table[b + UPPER],
             &edges[first..past],
         );
         node = next;

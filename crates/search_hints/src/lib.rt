@@ -5,10 +5,12 @@ use constraint::Constraint;
 use word::NodeNumber;
 use word::RECORD;
 use word::Remainder;
+use word::UPPER;
 ghost use mathlib.Core.Path.{_≡_};
 ghost use mathlib.Core.Bool.{true};
-ghost use Prim.Native.Nat.{_+_, _*_, _≤_, _<_};
+ghost use Prim.Native.Nat.{_+_, _≤_, _<_};
 ghost use lib.ListN.{length};
+ghost use Rattle.word.specs.Record.{RecordsFit};
 ghost use Rattle.search_hints.specs.Level.{levelWords};
 
 // The most records of the second run.
@@ -76,7 +78,7 @@ fn add_to(work: &mut [u32], from: usize, up: usize, n: u32)
 
 // Whether record k is one of the first `count` and of the level.
 fn of_level(table: &[u32], count: usize, k: NodeNumber, level: u32) -> bool
-    requires { ⌜ count * 4 ≤ length (now table) ⌝ }
+    requires { ⌜ RecordsFit count (now table) ⌝ }
     ensures { λ b. ⌜ (b ≡ true → k .0 < count) ⌝ }
 {
     if count <= k.0 {
@@ -95,14 +97,14 @@ fn count_level(
     level: u32,
     at: usize,
 ) -> usize
-    requires { ⌜ (count * 4 ≤ length (now table)) × (at + levelWords ≤ length (now work)) ⌝ }
+    requires { ⌜ RecordsFit count (now table) × (at + levelWords ≤ length (now work)) ⌝ }
 {
     let bits = work[at + 1] % 32;
     let mut e = k;
     let mut n: u32 = 0;
     let mut from = at + 2;
     while of_level(table, count, NodeNumber(e), level) {
-        let up = at + 3 + ((table[e * RECORD + 2] >> bits) % PARTS) as usize;
+        let up = at + 3 + ((table[e * RECORD + UPPER] >> bits) % PARTS) as usize;
         add_to(work, from, up, n);
         from = up;
         n = std::num::wrapping_add_u32(n, 1);
@@ -114,7 +116,7 @@ fn count_level(
 
 // Counts in the records of the second run, and sums up the numbers of records of the levels before each.
 pub fn count_run(table: &[u32], work: &mut [u32], main: usize, count: usize)
-    requires { ⌜ count * 4 ≤ length (now table) ⌝ }
+    requires { ⌜ RecordsFit count (now table) ⌝ }
     ensures { λ _. ⌜ length (now (work .exit)) ≡ length (now (work .entry)) ⌝ }
 {
     if work.len() <= MERGING {
@@ -147,7 +149,7 @@ fn search_part(
     up: u32,
     r: Remainder,
 ) -> NodeNumber
-    requires { ⌜ main * 4 ≤ length (now table) ⌝ }
+    requires { ⌜ RecordsFit main (now table) ⌝ }
     ensures { λ k. ⌜ k .0 ≤ main ⌝ }
 {
     if up < from {
@@ -168,7 +170,7 @@ fn search_part(
 
 // The number of the record of the first run that may hold the remainder.
 pub fn guess(table: &[u32], work: &[u32], main: usize, level: u32, r: Remainder) -> NodeNumber
-    requires { ⌜ main * 4 ≤ length (now table) ⌝ }
+    requires { ⌜ RecordsFit main (now table) ⌝ }
     ensures { λ k. ⌜ k .0 ≤ main ⌝ }
 {
     if level == 0 {

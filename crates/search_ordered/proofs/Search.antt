@@ -12,7 +12,7 @@ use native.Mathlib.Omega.{arith}
 use lib.ListN.{length, getD}
 use lib.Dec.{leb, ltb}
 use borrow.Author.Tests.{ne-eqb, leb-true, ltb-true, ltb-false, lt-ltb, le-ltb}
-use Rattle.word.specs.Record.{Record, noRecord, used}
+use Rattle.word.specs.Record.{Record, noRecord, used, RecordsFit, recordAt}
 use Rattle.word.proofs.Tests.{both-true}
 use Rattle.finder.specs.declared.Found.the-variants.{At, Nothing}
 use Rattle.finder.specs.Find.{holds, liesBefore, bitOf, gapIn, findIn, key}
@@ -190,18 +190,18 @@ gap-miss xs s wanted r p small is e = rw is (sym (find-none xs 0 (gapIn xs wante
     none i l = decide i l (ltb i p) refl
 
 -- What a search compares of record m's words is what the record has.
-module _ (t : List ℕ) (count : ℕ) (room : count * 4 ≤ length t) (m : ℕ) (h : m < count) where
-  pub words-low : Low (used t count) → getD t (m * 4) 0 < lowLevels
+module _ (t : List ℕ) (count : ℕ) (room : RecordsFit count t) (m : ℕ) (h : m < count) where
+  pub words-low : Low (used t count) → recordAt t m .level < lowLevels
   words-low low = rw (used-at t count room m h) at (low m (omega (arith, used-length t count room)))
 
-  pub words-upper : Sorted (used t count) → getD t (m * 4 + 2) 0 < 4294967296
+  pub words-upper : Sorted (used t count) → recordAt t m .upper < 4294967296
   words-upper s = rw (used-at t count room m h) at (proper-at (used t count) s m (omega (arith, used-length t count room)) .1)
 
   -- as a test, and as a bit
-  pub words-below : (level r : ℕ) (b v : Bool) → b ≡ v → b ≡ ltb (key (getD t (m * 4) 0) (getD t (m * 4 + 2) 0)) (key level r) → ltb (upperKey (used t count) m) (key level r) ≡ v
+  pub words-below : (level r : ℕ) (b v : Bool) → b ≡ v → b ≡ ltb (key (recordAt t m .level) (recordAt t m .upper)) (key level r) → ltb (upperKey (used t count) m) (key level r) ≡ v
   words-below level r b v value e = rw (used-at t count room m h) (sym e ∙ value)
 
-  pub words-bit : (level r b : ℕ) → b ≡ bitOf (ltb (key (getD t (m * 4) 0) (getD t (m * 4 + 2) 0)) (key level r)) → b ≡ bitOf (ltb (upperKey (used t count) m) (key level r))
+  pub words-bit : (level r b : ℕ) → b ≡ bitOf (ltb (key (recordAt t m .level) (recordAt t m .upper)) (key level r)) → b ≡ bitOf (ltb (upperKey (used t count) m) (key level r))
   words-bit level r b e = rw (used-at t count room m h) e
 
 -- What the test of one record says of the finder's reply.

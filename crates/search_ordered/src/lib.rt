@@ -3,16 +3,17 @@ use finder::Found;
 use finder::below;
 use finder::holds;
 use finder::key_of;
+use word::LOWER;
 use word::NodeNumber;
 use word::RECORD;
 use word::Remainder;
+use word::UPPER;
 ghost use mathlib.Core.Path.{_≡_};
 ghost use mathlib.Core.Bool.{true};
-ghost use Prim.Native.Nat.{_+_, _-_, _*_, _≤_, _<_};
+ghost use Prim.Native.Nat.{_+_, _≤_, _<_};
 ghost use lib.Dec.{ltb};
-ghost use lib.ListN.{length};
 ghost use Rattle.finder.specs.Find.{bitOf, gapIn, findIn};
-ghost use Rattle.word.specs.Record.{used};
+ghost use Rattle.word.specs.Record.{used, RecordsFit};
 ghost use Rattle.search_ordered.specs.Order.{Sorted, lastBelow, lowLevels, Low, hits};
 
 // Levels are low below this number.
@@ -31,7 +32,7 @@ fn less_bit(a: u64, b: u64) -> usize
 
 // The gap by halves without branches, where the levels are low.
 fn gap_low(table: &[u32], count: usize, level: u32, r: Remainder) -> usize
-    requires { ⌜ (count * 4 ≤ length (now table)) × Sorted (used (now table) count) × Low (used (now table) count) × (level < lowLevels) ⌝ }
+    requires { ⌜ RecordsFit count (now table) × Sorted (used (now table) count) × Low (used (now table) count) × (level < lowLevels) ⌝ }
     ensures { λ p. ⌜ p ≡ gapIn (used (now (table .entry)) count) level (r .0) ⌝ }
 {
     let mut p = 0;
@@ -39,7 +40,7 @@ fn gap_low(table: &[u32], count: usize, level: u32, r: Remainder) -> usize
     while 0 < left {
         let half = left - (left >> 1);
         let b = (p + half - 1) * RECORD;
-        p += half * less_bit(key_of(table[b], table[b + 2]), key_of(level, r.0));
+        p += half * less_bit(key_of(table[b], table[b + UPPER]), key_of(level, r.0));
         left -= half;
     }
     p
@@ -47,7 +48,7 @@ fn gap_low(table: &[u32], count: usize, level: u32, r: Remainder) -> usize
 
 // The gap by halves, whatever the levels are.
 fn gap_any(table: &[u32], count: usize, level: u32, r: Remainder) -> usize
-    requires { ⌜ (count * 4 ≤ length (now table)) × Sorted (used (now table) count) ⌝ }
+    requires { ⌜ RecordsFit count (now table) × Sorted (used (now table) count) ⌝ }
     ensures { λ p. ⌜ p ≡ gapIn (used (now (table .entry)) count) level (r .0) ⌝ }
 {
     let mut lo = 0;
@@ -55,7 +56,7 @@ fn gap_any(table: &[u32], count: usize, level: u32, r: Remainder) -> usize
     while lo < hi {
         let mid = lo + ((hi - lo) >> 1);
         let b = mid * RECORD;
-        if below(table[b], table[b + 2], level, r) {
+        if below(table[b], table[b + UPPER], level, r) {
             lo = mid + 1;
         } else {
             hi = mid;
@@ -66,7 +67,7 @@ fn gap_any(table: &[u32], count: usize, level: u32, r: Remainder) -> usize
 
 // Whether the level and those of the first `count` records, which are in order, are low: the last tells.
 fn low(table: &[u32], count: usize, level: u32) -> bool
-    requires { ⌜ (count * 4 ≤ length (now table)) × Sorted (used (now table) count) ⌝ }
+    requires { ⌜ RecordsFit count (now table) × Sorted (used (now table) count) ⌝ }
     ensures { λ b. ⌜ (b ≡ true → Low (used (now (table .entry)) count) × (level < lowLevels)) ⌝ }
 {
     if LOW <= level {
@@ -80,7 +81,7 @@ fn low(table: &[u32], count: usize, level: u32) -> bool
 
 // The gap among the first `count` records, which are in order: it is the place of the remainder.
 fn gap(table: &[u32], count: usize, level: u32, r: Remainder) -> usize
-    requires { ⌜ (count * 4 ≤ length (now table)) × Sorted (used (now table) count) ⌝ }
+    requires { ⌜ RecordsFit count (now table) × Sorted (used (now table) count) ⌝ }
     ensures { λ p. ⌜ p ≡ gapIn (used (now (table .entry)) count) level (r .0) ⌝ }
 {
     if low(table, count, level) {
@@ -91,7 +92,7 @@ fn gap(table: &[u32], count: usize, level: u32, r: Remainder) -> usize
 
 // Whether there are n records among the first `count`, and the last of them, where n is not 0, lies wholly before the remainder at the level.
 fn last_below(table: &[u32], count: usize, n: usize, level: u32, r: Remainder) -> bool
-    requires { ⌜ count * 4 ≤ length (now table) ⌝ }
+    requires { ⌜ RecordsFit count (now table) ⌝ }
     ensures { λ b. ⌜ b ≡ lastBelow (used (now (table .entry)) count) level (r .0) n ⌝ }
 {
     if n == 0 {
@@ -101,24 +102,24 @@ fn last_below(table: &[u32], count: usize, n: usize, level: u32, r: Remainder) -
         return false;
     }
     let b = (n - 1) * RECORD;
-    below(table[b], table[b + 2], level, r)
+    below(table[b], table[b + UPPER], level, r)
 }
 
 // Whether record p is one of the first `count` and holds the remainder.
 fn hit(table: &[u32], count: usize, p: NodeNumber, level: u32, r: Remainder) -> bool
-    requires { ⌜ count * 4 ≤ length (now table) ⌝ }
+    requires { ⌜ RecordsFit count (now table) ⌝ }
     ensures { λ b. ⌜ b ≡ hits (used (now (table .entry)) count) level (r .0) (p .0) ⌝ }
 {
     if p.0 < count {
         let b = p.0 * RECORD;
-        return holds(table[b], table[b + 1], table[b + 2], level, r);
+        return holds(table[b], table[b + LOWER], table[b + UPPER], level, r);
     }
     false
 }
 
 // The finder's reply on the first `count` records, which are in order, from the gap, where a record that holds the remainder would stand.
 fn found_at(table: &[u32], count: usize, p: usize, level: u32, r: Remainder) -> Found
-    requires { ⌜ (count * 4 ≤ length (now table)) × Sorted (used (now table) count) × (p ≡ gapIn (used (now table) count) level (r .0)) ⌝ }
+    requires { ⌜ RecordsFit count (now table) × Sorted (used (now table) count) × (p ≡ gapIn (used (now table) count) level (r .0)) ⌝ }
     ensures { λ f. ⌜ f ≡ findIn (used (now (table .entry)) count) level (r .0) ⌝ }
 {
     if hit(table, count, NodeNumber(p), level, r) {
@@ -129,7 +130,7 @@ fn found_at(table: &[u32], count: usize, p: usize, level: u32, r: Remainder) -> 
 
 // Whether the gap among the first `count` records is n, as the records on both sides tell.
 fn gap_is(table: &[u32], count: usize, n: usize, level: u32, r: Remainder) -> bool
-    requires { ⌜ (count * 4 ≤ length (now table)) × Sorted (used (now table) count) ⌝ }
+    requires { ⌜ RecordsFit count (now table) × Sorted (used (now table) count) ⌝ }
     ensures { λ b. ⌜ (b ≡ true → n ≡ gapIn (used (now (table .entry)) count) level (r .0)) ⌝ }
 {
     if !last_below(table, count, n, level, r) {
@@ -139,12 +140,12 @@ fn gap_is(table: &[u32], count: usize, n: usize, level: u32, r: Remainder) -> bo
         return true;
     }
     let b = n * RECORD;
-    !below(table[b], table[b + 2], level, r)
+    !below(table[b], table[b + UPPER], level, r)
 }
 
 // The gap, whatever the guess is: the guess itself, where the records on both sides tell that it is right.
 fn gap_near(table: &[u32], count: usize, guess: usize, level: u32, r: Remainder) -> usize
-    requires { ⌜ (count * 4 ≤ length (now table)) × Sorted (used (now table) count) ⌝ }
+    requires { ⌜ RecordsFit count (now table) × Sorted (used (now table) count) ⌝ }
     ensures { λ p. ⌜ p ≡ gapIn (used (now (table .entry)) count) level (r .0) ⌝ }
 {
     if gap_is(table, count, guess, level, r) {
@@ -155,7 +156,7 @@ fn gap_near(table: &[u32], count: usize, guess: usize, level: u32, r: Remainder)
 
 // The finder's reply on the first `count` records, which are in order.
 pub fn find_sorted(table: &[u32], count: usize, level: u32, r: Remainder) -> Found
-    requires { ⌜ (count * 4 ≤ length (now table)) × Sorted (used (now table) count) ⌝ }
+    requires { ⌜ RecordsFit count (now table) × Sorted (used (now table) count) ⌝ }
     ensures { λ f. ⌜ f ≡ findIn (used (now (table .entry)) count) level (r .0) ⌝ }
 {
     let p = gap(table, count, level, r);
@@ -164,7 +165,7 @@ pub fn find_sorted(table: &[u32], count: usize, level: u32, r: Remainder) -> Fou
 
 // The same reply, whatever the guess is: a record that holds the remainder, and else by way of the gap.
 pub fn find_near(table: &[u32], count: usize, guess: NodeNumber, level: u32, r: Remainder) -> Found
-    requires { ⌜ (count * 4 ≤ length (now table)) × Sorted (used (now table) count) ⌝ }
+    requires { ⌜ RecordsFit count (now table) × Sorted (used (now table) count) ⌝ }
     ensures { λ f. ⌜ f ≡ findIn (used (now (table .entry)) count) level (r .0) ⌝ }
 {
     if hit(table, count, guess, level, r) {
@@ -185,16 +186,16 @@ fn ends_before(upper: u32, r: Remainder) -> usize
 // The number past n records from p on, where the last of them ends before the remainder, and else p; without a branch. Levels are not looked at, so this is a
 // guess, and whoever uses it tests it.
 pub fn pass(table: &[u32], p: usize, n: usize, r: Remainder) -> usize
-    requires { ⌜ (0 < n) × ((p + n) * 4 ≤ length (now table)) ⌝ }
+    requires { ⌜ (0 < n) × RecordsFit (p + n) (now table) ⌝ }
     ensures { λ q. ⌜ q ≤ p + n ⌝ }
 {
-    p + n * ends_before(table[(p + n - 1) * RECORD + 2], r)
+    p + n * ends_before(table[(p + n - 1) * RECORD + UPPER], r)
 }
 
 // The number past those of the next few records that end before the remainder, where they are of one level; where fewer are left, the number itself. This is a
 // guess as well.
 pub fn pass_few(table: &[u32], count: usize, from: usize, r: Remainder) -> usize
-    requires { ⌜ count * 4 ≤ length (now table) ⌝ }
+    requires { ⌜ RecordsFit count (now table) ⌝ }
     ensures { λ p. ⌜ (from ≤ count → p ≤ count) ⌝ }
 {
     if count <= from {
@@ -210,7 +211,7 @@ pub fn pass_few(table: &[u32], count: usize, from: usize, r: Remainder) -> usize
 
 // The number past those of the next few records that lie wholly before the remainder at the level. Past the gap it is the number itself, so this too is a guess.
 fn walk(table: &[u32], count: usize, from: usize, level: u32, r: Remainder) -> usize
-    requires { ⌜ count * 4 ≤ length (now table) ⌝ }
+    requires { ⌜ RecordsFit count (now table) ⌝ }
 {
     let mut p = from;
     let mut left = FEW;
@@ -219,7 +220,7 @@ fn walk(table: &[u32], count: usize, from: usize, level: u32, r: Remainder) -> u
             return p;
         }
         let b = p * RECORD;
-        if !below(table[b], table[b + 2], level, r) {
+        if !below(table[b], table[b + UPPER], level, r) {
             return p;
         }
         p += 1;
@@ -231,7 +232,7 @@ fn walk(table: &[u32], count: usize, from: usize, level: u32, r: Remainder) -> u
 // The same reply, whatever the cursor is: it is where guesses are looked for, and they are tested. It moves to where the search ends, so that the next, for a
 // remainder that lies a little further on, is short. It is a bare number, as the borrow checker covers no reference to a struct.
 pub fn find_from(table: &[u32], count: usize, cursor: &mut usize, level: u32, r: Remainder) -> Found
-    requires { ⌜ (count * 4 ≤ length (now table)) × Sorted (used (now table) count) ⌝ }
+    requires { ⌜ RecordsFit count (now table) × Sorted (used (now table) count) ⌝ }
     ensures { λ f. ⌜ f ≡ findIn (used (now (table .entry)) count) level (r .0) ⌝ }
 {
     let k = pass_few(table, count, *cursor, r);

@@ -3,10 +3,10 @@
 use mathlib.Core.Path.{_≡_, refl, sym, ap, _∙_}
 use mathlib.Core.List.{List, [], _∷_, _++_}
 use mathlib.Core.Bool.{Bool, true, false, cond}
-use Prim.Native.Nat.{ℕ, suc, _+_, _*_, _≤_}
+use Prim.Native.Nat.{ℕ, suc, _+_, _≤_}
 use native.Mathlib.Omega.{arith}
 use lib.ListN.{length}
-use Rattle.word.specs.Record.{Record, used}
+use Rattle.word.specs.Record.{Record, used, RecordsFit}
 use Rattle.finder.specs.declared.Found.{Found}
 use Rattle.finder.specs.declared.Found.the-variants.{At, Nothing}
 use Rattle.finder.specs.Find.{holds, gapIn, findFrom, findIn}
@@ -47,7 +47,7 @@ find-joined (x ∷ xs) ys k a b wanted r = go (holds x wanted r) (find-joined xs
     go false h = let z : suc k + length xs ≡ k + suc (length xs) = omega arith in rw z at h
 
 -- THE REPLY from those on the two runs.
-pub find-runs : (t : List ℕ) (m count : ℕ) → m ≤ count → count * 4 ≤ length t → (wanted r : ℕ) (f g : Found) → f ≡ findIn (used t m) wanted r → g ≡ findIn (secondRun t m count) wanted r
+pub find-runs : (t : List ℕ) (m count : ℕ) → m ≤ count → RecordsFit count t → (wanted r : ℕ) (f g : Found) → f ≡ findIn (used t m) wanted r → g ≡ findIn (secondRun t m count) wanted r
     → joined m f g ≡ findIn (used t count) wanted r
 find-runs t m count mid room wanted r f g e h =
     let xs : List Record = used t m in

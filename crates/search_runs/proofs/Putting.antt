@@ -1,65 +1,65 @@
 -- A RECORD PUT INTO THE SECOND RUN: the words from the second run on as records, and the table with other words there. Assumes nothing.
 use mathlib.Core.Path.{_≡_, sym, ap, _∙_}
 use mathlib.Core.List.{List, _++_, append-nil}
-use Prim.Native.Nat.{ℕ, _+_, _-_, _*_, _≤_}
+use Prim.Native.Nat.{ℕ, suc, _+_, _-_, _*_, _≤_}
 use native.Mathlib.Omega.{arith}
 use lib.ListN.{length, take, drop, length-drop, drop-of-length-le}
 use lib.Seq.{take-at, take-all, drop-at, drop-drop, length-take-le}
 use borrow.Rule.Slice.PartMut.{putMid, same-len-mid}
-use Rattle.word.specs.Record.{Record, records, used}
+use Rattle.word.specs.Record.{Record, records, used, recordWords, RecordsFit, recordFrom}
 use Rattle.finder.specs.Find.{gapIn}
 use Rattle.search_store.specs.Insert.{insertAt}
-use Rattle.word.proofs.Flat.{recordFrom, records-length, records-take, records-drop, records-append}
+use Rattle.word.proofs.Flat.{records-length, records-take, records-drop, records-append}
 use Rattle.search_runs.specs.Runs.{secondRun, PutIn}
 
-module _ (t : List ℕ) (m count : ℕ) (mid : m ≤ count) (room : count * 4 + 4 ≤ length t) where
+module _ (t : List ℕ) (m count : ℕ) (mid : m ≤ count) (room : RecordsFit (suc count) t) where
   -- The words from the second run on.
   abbrev tail : List ℕ
-  tail = take (length t - m * 4) (drop (m * 4) t)
+  tail = take (length t - m * recordWords) (drop (m * recordWords) t)
 
-  pub tail-length : length tail ≡ length t - m * 4
-  tail-length = length-take-le (length t - m * 4) (drop (m * 4) t) (omega (arith, length-drop (m * 4) t))
+  pub tail-length : length tail ≡ length t - m * recordWords
+  tail-length = length-take-le (length t - m * recordWords) (drop (m * recordWords) t) (omega (arith, length-drop (m * recordWords) t))
 
-  tail-is : tail ≡ drop (m * 4) t
-  tail-is = take-all (length t - m * 4) (drop (m * 4) t) (omega (arith, length-drop (m * 4) t))
+  tail-is : tail ≡ drop (m * recordWords) t
+  tail-is = take-all (length t - m * recordWords) (drop (m * recordWords) t) (omega (arith, length-drop (m * recordWords) t))
 
   pub tail-used : used tail (count - m) ≡ secondRun t m count
   tail-used = ap (λ (l : List ℕ). used l (count - m)) tail-is ∙ ap (take (count - m)) (records-drop m t)
 
   -- The table with ys from the second run on.
   abbrev changed : List ℕ → List ℕ
-  changed ys = putMid (m * 4) (length t - m * 4) t ys
+  changed ys = putMid (m * recordWords) (length t - m * recordWords) t ys
 
-  changed-is : (ys : List ℕ) → changed ys ≡ take (m * 4) t ++ ys
+  changed-is : (ys : List ℕ) → changed ys ≡ take (m * recordWords) t ++ ys
   changed-is ys =
-      let h : length (drop (m * 4) t) ≤ length t - m * 4 = omega (arith, length-drop (m * 4) t) in
-      rw (drop-of-length-le (drop (m * 4) t) h, append-nil)
+      let h : length (drop (m * recordWords) t) ≤ length t - m * recordWords = omega (arith, length-drop (m * recordWords) t) in
+      rw (drop-of-length-le (drop (m * recordWords) t) h, append-nil)
 
-  front-length : length (take (m * 4) t) ≡ m * 4
-  front-length = length-take-le (m * 4) t (omega arith)
+  front-length : length (take (m * recordWords) t) ≡ m * recordWords
+  front-length = length-take-le (m * recordWords) t (omega arith)
 
   changed-records : (ys : List ℕ) → records (changed ys) ≡ take m (records t) ++ records ys
   changed-records ys =
-      ap records (changed-is ys) ∙ records-append m (take (m * 4) t) ys front-length ∙ ap (λ (q : List Record). q ++ records ys) (records-take m t)
+      ap records (changed-is ys) ∙ records-append m (take (m * recordWords) t) ys front-length ∙ ap (λ (q : List Record). q ++ records ys) (records-take m t)
 
   -- Where ys are as the table's own words from a place on, so is the table.
-  changed-beyond : (ys : List ℕ) (n : ℕ) → drop n ys ≡ drop n tail → drop (m * 4 + n) (changed ys) ≡ drop (m * 4 + n) t
+  changed-beyond : (ys : List ℕ) (n : ℕ) → drop n ys ≡ drop n tail → drop (m * recordWords + n) (changed ys) ≡ drop (m * recordWords + n) t
   changed-beyond ys n e =
-      sym (drop-drop n (m * 4) (changed ys))
-      ∙ ap (drop n) (ap (drop (m * 4)) (changed-is ys) ∙ drop-at (take (m * 4) t) ys (m * 4) front-length)
+      sym (drop-drop n (m * recordWords) (changed ys))
+      ∙ ap (drop n) (ap (drop (m * recordWords)) (changed-is ys) ∙ drop-at (take (m * recordWords) t) ys (m * recordWords) front-length)
       ∙ e
       ∙ ap (drop n) tail-is
-      ∙ drop-drop n (m * 4) t
+      ∙ drop-drop n (m * recordWords) t
 
   pub put-second : (level r lower upper p : ℕ) (ys : List ℕ) → p ≡ gapIn (used tail (count - m)) level r
       → used ys (count - m + 1) ≡ insertAt p (recordFrom level lower upper 0) (used tail (count - m))
-      → drop ((count - m) * 4 + 4) ys ≡ drop ((count - m) * 4 + 4) tail
+      → drop ((count - m) * recordWords + recordWords) ys ≡ drop ((count - m) * recordWords + recordWords) tail
       → length ys ≡ length tail
       → PutIn t m count level r lower upper (changed ys)
   put-second level r lower upper p ys is put past long =
       let first : length (take m (records t)) ≡ m = length-take-le m (records t) (omega (arith, records-length t)) in
       let n : count + 1 - m ≡ count - m + 1 = omega arith in
-      let behind : count * 4 + 4 ≡ m * 4 + ((count - m) * 4 + 4) = omega arith in
+      let behind : count * recordWords + recordWords ≡ m * recordWords + ((count - m) * recordWords + recordWords) = omega arith in
       record {
         main = ap (take m) (changed-records ys) ∙ take-at (take m (records t)) (records ys) m first;
         pending =
@@ -69,6 +69,6 @@ module _ (t : List ℕ) (m count : ℕ) (mid : m ≤ count) (room : count * 4 + 
             ∙ put
             ∙ ap (λ (k : ℕ). insertAt k (recordFrom level lower upper 0) (used tail (count - m))) is
             ∙ ap (λ (xs : List Record). insertAt (gapIn xs level r) (recordFrom level lower upper 0) xs) tail-used;
-        beyond = rw behind (changed-beyond ys ((count - m) * 4 + 4) past);
-        long = same-len-mid (m * 4) (length t - m * 4) t ys long;
+        beyond = rw behind (changed-beyond ys ((count - m) * recordWords + recordWords) past);
+        long = same-len-mid (m * recordWords) (length t - m * recordWords) t ys long;
       }

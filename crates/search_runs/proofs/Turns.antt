@@ -9,7 +9,7 @@ use native.Mathlib.Omega.{arith}
 use lib.ListN.{length, getD, take, drop, set, take-append-drop, length-set}
 use lib.Seq.{take-suc, append-snoc, getD-take, take-at, drop-at, length-take-le, take-take, take-set-le, set-split}
 use borrow.Author.Tests.{lt-ltb}
-use Rattle.word.specs.Record.{Record, records, noRecord, used, putRecord}
+use Rattle.word.specs.Record.{Record, records, noRecord, used, putRecord, recordWords, RecordsFit, recordAt}
 use Rattle.finder.specs.Find.{key}
 use Rattle.word.proofs.Flat.{records-length, used-length, used-at}
 use Rattle.search_runs.specs.Runs.{secondRun, lowerKey, after, merge, Merged}
@@ -133,9 +133,9 @@ Inv t₀ s m count t i j =
     × (i ≤ m)
     × (j ≤ count - m)
     × (length t ≡ length t₀)
-    × (drop (count * 4) t ≡ drop (count * 4) t₀)
+    × (drop (count * recordWords) t ≡ drop (count * recordWords) t₀)
 
-module _ (t₀ s : List ℕ) (m count : ℕ) (mid : m ≤ count) (room : count * 4 ≤ length t₀) (few : count * 4 ≤ m * 4 + length s) where
+module _ (t₀ s : List ℕ) (m count : ℕ) (mid : m ≤ count) (room : RecordsFit count t₀) (few : count * recordWords ≤ m * recordWords + length s) where
   pub inv-start : Inv t₀ s m count t₀ m (count - m)
   inv-start = (state-start (used s (count - m)) (records t₀) m (count - m), omega arith, omega arith, refl, refl)
 
@@ -152,7 +152,7 @@ module _ (t₀ s : List ℕ) (m count : ℕ) (mid : m ≤ count) (room : count *
         long = inv .3;
       }
 
-  module _ (t : List ℕ) (i j k : ℕ) (inv : Inv t₀ s m count t i j) (some : 0 < j) (e : k ≡ key (getD s ((j - 1) * 4) 0) (getD s ((j - 1) * 4 + 1) 0)) (t′ : List ℕ) where
+  module _ (t : List ℕ) (i j k : ℕ) (inv : Inv t₀ s m count t i j) (some : 0 < j) (e : k ≡ key (recordAt s (j - 1) .level) (recordAt s (j - 1) .lower)) (t′ : List ℕ) where
     abbrev last : Record
     last = getD (used s (count - m)) (j - 1) noRecord
 
@@ -164,13 +164,13 @@ module _ (t₀ s : List ℕ) (m count : ℕ) (mid : m ≤ count) (room : count *
         → MergeState (used t₀ m) (used s (count - m)) (records t₀) m (count - m) (set (records t) (i′ + j′) x) i′ j′
         → t′ ≡ putRecord t (i′ + j′) x → Inv t₀ s m count t′ i′ j′
     stored-inv i′ j′ x a b n st w =
-        let free : (i′ + j′) * 4 + 4 ≤ length t = omega (arith, inv .1, inv .2, inv .3) in
+        let free : RecordsFit (suc (i′ + j′)) t = omega (arith, inv .1, inv .2, inv .3) in
         rw w (
           rw (put-records t (i′ + j′) x free) st,
           omega (arith, inv .1),
           omega (arith, inv .2),
           put-length t (i′ + j′) x free ∙ inv .3,
-          put-beyond t (i′ + j′) x free (count * 4) (omega (arith, inv .1, inv .2)) ∙ inv .4,
+          put-beyond t (i′ + j′) x free (count * recordWords) (omega (arith, inv .1, inv .2)) ∙ inv .4,
         )
 
     pub turn-main : lastAbove (records t) i k ≡ true → t′ ≡ putRecord t (i - 1 + j) (getD (records t) (i - 1) noRecord) → Inv t₀ s m count t′ (i - 1) j

@@ -9,7 +9,7 @@ use native.Mathlib.Omega.{arith}
 use lib.ListN.{length, getD, take, drop, length-append, length-drop}
 use lib.Seq.{take-suc, take-all, take-take, take-add, take-at, length-take-le}
 use borrow.Author.Tests.{ltb-true, ltb-false}
-use Rattle.word.specs.Record.{Record, records, noRecord, used, Among}
+use Rattle.word.specs.Record.{Record, records, noRecord, used, Among, recordWords, RecordsFit}
 use Rattle.search_ordered.specs.Order.{Before, Proper, Sorted}
 use Rattle.search_store.specs.Copy.{copied}
 use Rattle.word.proofs.Flat.{records-length, records-take, records-drop, used-length}
@@ -124,24 +124,24 @@ both-runs t m count h =
     let e : m + (count - m) ≡ count = omega arith in
     ap (λ (n : ℕ). take n (records t)) (sym e) ∙ take-add m (count - m) (records t)
 
-pub run-length : (t : List ℕ) (m count : ℕ) → m ≤ count → count * 4 ≤ length t → length (secondRun t m count) ≡ count - m
+pub run-length : (t : List ℕ) (m count : ℕ) → m ≤ count → RecordsFit count t → length (secondRun t m count) ≡ count - m
 run-length t m count h room = length-take-le (count - m) (drop m (records t)) (omega (arith, records-length t, length-drop m (records t)))
 
 -- The words of the second run, where they lie and where they are copied to.
 module _ (t : List ℕ) (m count : ℕ) (mid : m ≤ count) where
   run-records : records (runWords t m count) ≡ secondRun t m count
   run-records =
-      let n : count * 4 - m * 4 ≡ (count - m) * 4 = omega arith in
-      rw n (records-take (count - m) (drop (m * 4) t) ∙ ap (take (count - m)) (records-drop m t))
+      let n : count * recordWords - m * recordWords ≡ (count - m) * recordWords = omega arith in
+      rw n (records-take (count - m) (drop (m * recordWords) t) ∙ ap (take (count - m)) (records-drop m t))
 
   pub run-words : used (runWords t m count) (count - m) ≡ secondRun t m count
   run-words = ap (take (count - m)) run-records ∙ take-take (count - m) (count - m) (drop m (records t)) (omega arith)
 
-  pub run-copied : count * 4 ≤ length t → (s w : List ℕ) → s ≡ copied (runWords t m count) w → used s (count - m) ≡ secondRun t m count
+  pub run-copied : RecordsFit count t → (s w : List ℕ) → s ≡ copied (runWords t m count) w → used s (count - m) ≡ secondRun t m count
   run-copied room s w e =
       let ws : List ℕ = runWords t m count in
-      let n : length ws ≡ (count - m) * 4 = length-take-le (count * 4 - m * 4) (drop (m * 4) t) (omega (arith, length-drop (m * 4) t)) ∙ omega arith in
-      sym (records-take (count - m) s) ∙ ap records (ap (take ((count - m) * 4)) e ∙ take-at ws (drop (length ws) w) ((count - m) * 4) n) ∙ run-records
+      let n : length ws ≡ (count - m) * recordWords = length-take-le (count * recordWords - m * recordWords) (drop (m * recordWords) t) (omega (arith, length-drop (m * recordWords) t)) ∙ omega arith in
+      sym (records-take (count - m) s) ∙ ap records (ap (take ((count - m) * recordWords)) e ∙ take-at ws (drop (length ws) w) ((count - m) * recordWords) n) ∙ run-records
 
 module _ (t : List ℕ) (m count w : ℕ) (rs : Runs t m count w) where
   main-length : length (used t m) ≡ m

@@ -7,7 +7,7 @@ use mathlib.Core.Bool.{Bool, cond}
 use Prim.Native.Nat.{ℕ, zero, suc, _+_, _-_, _*_, _≤_}
 use lib.Dec.{ltb}
 use lib.ListN.{length, take, drop, getD}
-use Rattle.word.specs.Record.{Record, records, noRecord, used, Among}
+use Rattle.word.specs.Record.{Record, records, noRecord, used, Among, recordWords, RecordsFit}
 use Rattle.finder.specs.Find.{gapIn, key}
 use Rattle.search_ordered.specs.Order.{Before, Sorted}
 use Rattle.search_store.specs.Insert.{insertAt}
@@ -22,7 +22,7 @@ secondRun t m count = take (count - m) (drop m (records t))
 
 -- The words of the second run.
 abbrev pub runWords : List ℕ → ℕ → ℕ → List ℕ
-runWords t m count = take (count * 4 - m * 4) (drop (m * 4) t)
+runWords t m count = take (count * recordWords - m * recordWords) (drop (m * recordWords) t)
 
 -- Level and lower end of a record as one number.
 abbrev pub lowerKey : Record → ℕ
@@ -49,22 +49,22 @@ Apart xs ys = (x y : Record) → Among x xs → Among y ys → Before x y ⊎ Be
 
 -- Both runs lie in the table and are in order, and the second fits into w words.
 pub record Runs (t : List ℕ) (m count w : ℕ) : Type 0 where
-  pub room : count * 4 ≤ length t
+  pub room : RecordsFit count t
   pub mid : m ≤ count
-  pub few : count * 4 ≤ m * 4 + w
+  pub few : count * recordWords ≤ m * recordWords + w
   pub main : Sorted (used t m)
   pub pending : Sorted (secondRun t m count)
 
 -- The first count records are both runs as one list; no word behind them has changed.
 pub record Merged (t : List ℕ) (m count : ℕ) (t′ : List ℕ) : Type 0 where
   pub merged : used t′ count ≡ bothRuns t m count
-  pub beyond : drop (count * 4) t′ ≡ drop (count * 4) t
+  pub beyond : drop (count * recordWords) t′ ≡ drop (count * recordWords) t
   pub long : length t′ ≡ length t
 
 -- The table is as it was, or its runs are merged; the first run has k records, and in the second there is room for one more within w words.
 pub record Settled (t : List ℕ) (m count w : ℕ) (t′ : List ℕ) (k : ℕ) : Type 0 where
   pub within : k ≤ count
-  pub free : count * 4 + 4 ≤ k * 4 + w
+  pub free : count * recordWords + recordWords ≤ k * recordWords + w
   pub long : length t′ ≡ length t
   pub way : ((k ≡ m) × (t′ ≡ t)) ⊎ ((k ≡ count) × Merged t m count t′)
 
@@ -72,5 +72,5 @@ pub record Settled (t : List ℕ) (m count w : ℕ) (t′ : List ℕ) (k : ℕ) 
 pub record PutIn (t : List ℕ) (m count level r lower upper : ℕ) (t′ : List ℕ) : Type 0 where
   pub main : used t′ m ≡ used t m
   pub pending : secondRun t′ m (count + 1) ≡ insertAt (gapIn (secondRun t m count) level r) (record { level = level; lower = lower; upper = upper; first = 0 }) (secondRun t m count)
-  pub beyond : drop (count * 4 + 4) t′ ≡ drop (count * 4 + 4) t
+  pub beyond : drop (count * recordWords + recordWords) t′ ≡ drop (count * recordWords + recordWords) t
   pub long : length t′ ≡ length t

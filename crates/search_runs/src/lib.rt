@@ -9,9 +9,9 @@ use word::NodeNumber;
 use word::RECORD;
 use word::Remainder;
 ghost use mathlib.Core.Path.{_≡_};
-ghost use Prim.Native.Nat.{_+_, _*_, _/_, _≤_, min};
+ghost use Prim.Native.Nat.{suc, _+_, _*_, _/_, _≤_, min};
 ghost use lib.ListN.{length};
-ghost use Rattle.word.specs.Record.{used};
+ghost use Rattle.word.specs.Record.{used, recordWords, RecordsFit};
 ghost use Rattle.search_ordered.specs.Order.{Sorted};
 ghost use Rattle.finder.specs.Find.{Missing, findIn};
 ghost use Rattle.search_store.specs.Copy.{copied};
@@ -35,7 +35,7 @@ pub fn find(
     level: u32,
     r: Remainder,
 ) -> Found
-    requires { ⌜ (main ≤ count) × (count * 4 ≤ length (now table)) × Sorted (used (now table) main) × Sorted (secondRun (now table) main count) ⌝ }
+    requires { ⌜ (main ≤ count) × RecordsFit count (now table) × Sorted (used (now table) main) × Sorted (secondRun (now table) main count) ⌝ }
     ensures { λ f. ⌜ f ≡ findIn (used (now (table .entry)) count) level (r .0) ⌝ }
 {
     let g = search_hints::guess(table, work, main, level, r);
@@ -61,7 +61,7 @@ pub fn find(
 
 // Merges the two runs into one, by way of the lent words, to which it copies the second.
 pub fn merge(table: &mut [u32], work: &mut [u32], main: usize, count: usize)
-    requires { ⌜ (main ≤ count) × (count * 4 ≤ length (now table)) × (count * 4 ≤ main * 4 + length (now work)) ⌝ }
+    requires { ⌜ (main ≤ count) × RecordsFit count (now table) × (count * recordWords ≤ main * recordWords + length (now work)) ⌝ }
     ensures { λ _. ⌜ Merged (now (table .entry)) main count (now (table .exit)) ⌝ }
     ensures { λ _. ⌜ now (work .exit) ≡ copied (runWords (now (table .entry)) main count) (now (work .entry)) ⌝ }
 {
@@ -82,7 +82,7 @@ fn limit(main: usize) -> usize
 // Merges the runs where the second is as long as it may be; how many records the first run has then. What the lent words hold then is left open, as the counts
 // among them are hints.
 pub fn settle(table: &mut [u32], work: &mut [u32], main: usize, count: usize) -> usize
-    requires { ⌜ (main ≤ count) × (count * 4 ≤ length (now table)) × (count * 4 ≤ main * 4 + length (now work)) × (4 ≤ length (now work)) ⌝ }
+    requires { ⌜ (main ≤ count) × RecordsFit count (now table) × (count * recordWords ≤ main * recordWords + length (now work)) × RecordsFit 1 (now work) ⌝ }
     ensures { λ k. ⌜ Settled (now (table .entry)) main count (length (now (work .entry))) (now (table .exit)) k ⌝ }
     ensures { λ _. ⌜ length (now (work .exit)) ≡ length (now (work .entry)) ⌝ }
 {
@@ -97,7 +97,7 @@ pub fn settle(table: &mut [u32], work: &mut [u32], main: usize, count: usize) ->
     count
 }
 
-// Puts a record with the fourth word 0 into the second run, none of whose records holds the remainder, at the gap that the finder replies; `near` is where it
+// Puts a record with the first place 0 into the second run, none of whose records holds the remainder, at the gap that the finder replies; `near` is where it
 // looks first. That none holds it is asked for, so the other reply cannot come.
 pub fn put(
     table: &mut [u32],
@@ -109,7 +109,7 @@ pub fn put(
     lower: u32,
     upper: u32,
 )
-    requires { ⌜ (main ≤ count) × (count * 4 + 4 ≤ length (now table)) × Sorted (secondRun (now table) main count) × Missing (secondRun (now table) main count) level (r .0) ⌝ }
+    requires { ⌜ (main ≤ count) × RecordsFit (suc count) (now table) × Sorted (secondRun (now table) main count) × Missing (secondRun (now table) main count) level (r .0) ⌝ }
     ensures { λ _. ⌜ PutIn (now (table .entry)) main count level (r .0) lower upper (now (table .exit)) ⌝ }
 {
     let b = main * RECORD;

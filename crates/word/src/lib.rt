@@ -22,8 +22,15 @@ pub enum Child {
     Node(NodeNumber),
 }
 
-// The words of a node's record in the flat table.
+// The words of a node's record in the flat table. The level stands first.
 pub const RECORD: usize = 4;
+
+// Where in them the other fields stand: both ends of the label, and the first place in the edge list.
+pub const LOWER: usize = 1;
+
+pub const UPPER: usize = 2;
+
+pub const FIRST: usize = 3;
 
 // The most nodes that a table is filled with, however long it is.
 pub const NODES: usize = 65536;

@@ -4,7 +4,7 @@ use borrow.Author.Needs.{needs}
 use mathlib.Core.Path.{_≡_, refl}
 use Prim.Native.Nat.{_*_, _+_, _-_}
 use native.Mathlib.Omega.{arith}
-use lib.ListN.{getD}
+use Rattle.word.specs.Record.{recordWords, recordAt, firstWord}
 use Rattle.encoding.specs.Boolean.{ordersBefore}
 use Rattle.clause_buffer.specs.Ended.{ended}
 use Rattle.clause_buffer.proofs.Writing.{WordsLeft, words-left-all, words-left-room, words-left-less, words-left-none}
@@ -34,7 +34,7 @@ shared-slice-read-next : tie.Need-shared-slice-read-next Inv-nodes μ-nodes
 shared-slice-read-next c = search needs
 
 cast-next : tie.Need-cast-next Inv-nodes μ-nodes
-cast-next c = omega (arith, c .shared-slice-known4 .given (c .before .before .nodes .k * 4))
+cast-next c = omega (arith, c .shared-slice-known4 .given (c .before .before .nodes .k * recordWords))
 
 sub-next : tie.Need-sub-next Inv-nodes μ-nodes
 sub-next c =
@@ -55,7 +55,7 @@ shared-slice-read-first : tie.Need-shared-slice-read-first Inv-nodes μ-nodes
 shared-slice-read-first c = search needs
 
 cast-first : tie.Need-cast-first Inv-nodes μ-nodes
-cast-first c = omega (arith, c .shared-slice-known5 .given (c .before .before .before .nodes .k * 4 + 3))
+cast-first c = omega (arith, c .shared-slice-known5 .given (c .before .before .before .nodes .k * recordWords + firstWord))
 
 mul-past : tie.Need-mul-past Inv-nodes μ-nodes
 mul-past c =
@@ -72,7 +72,7 @@ shared-slice-read-past c =
 cast-past : tie.Need-cast-past Inv-nodes μ-nodes
 cast-past c =
     let turn = c .before .before .before .before in
-    omega (arith, c .shared-slice-known6 .given (getD (turn .before .before .before .before .before .args .table .now) (turn .nodes .k * 4) 0 - 1))
+    omega (arith, c .shared-slice-known6 .given (recordAt (turn .before .before .before .before .before .args .table .now) (turn .nodes .k) .level - 1))
 
 add-past : tie.Need-add-past Inv-nodes μ-nodes
 add-past c =

@@ -5,7 +5,7 @@ use Prim.Native.Nat.{_-_, _/_, _≤_}
 use native.Mathlib.Omega.{arith}
 use mathlib.Core.Path.{_≡_, refl}
 use lib.ListN.{length}
-use Rattle.word.specs.Record.{records}
+use Rattle.word.specs.Record.{records, recordWords}
 use Rattle.word.proofs.Flat.{records-length}
 use Rattle.word.proofs.Giving.{gives}
 use Rattle.finder.specs.Find.{foundValues}
@@ -14,7 +14,7 @@ use Rattle.finder.proofs.find.Statement.{statement}
 use Rattle.finder.proofs.find.Tie as tie
 
 abbrev Inv-loop : tie.InvT-loop
-Inv-loop table level r n k₀ gap₀ k gap = (n ≡ length table / 4) × (k ≤ n) × Past (records table) level (r .0) k gap
+Inv-loop table level r n k₀ gap₀ k gap = (n ≡ length table / recordWords) × (k ≤ n) × Past (records table) level (r .0) k gap
 
 abbrev μ-loop : tie.MeasureT-loop
 μ-loop table level r n k₀ gap₀ k gap = n - k

@@ -1,6 +1,7 @@
 -- `printout_lines::first_edge` meets its contract: the last word of a record, or the number of edges. Assumes nothing.
 use Prim.Native.Nat.{_+_, _*_}
 use native.Mathlib.Omega.{arith}
+use Rattle.word.specs.Record.{recordWords, firstWord}
 use Rattle.printout_lines.proofs.Drawn.{first-is, past-is}
 use borrow.Author.Needs.{needs}
 use Rattle.printout_lines.proofs.first_edge.Statement.{statement}
@@ -19,7 +20,7 @@ shared-slice-read-result : tie.Need-shared-slice-read-result
 shared-slice-read-result c = search needs
 
 cast-result : tie.Need-cast-result
-cast-result c = omega (arith, c .shared-slice-known .given (c .before .before .before .before .args .k .0 * 4 + 3))
+cast-result c = omega (arith, c .shared-slice-known .given (c .before .before .before .before .args .k .0 * recordWords + firstWord))
 
 returns : tie.Need-returns
 returns c = λ ns es l. first-is l (c .before .before .before .before .args .k .0) (omega arith)

@@ -1,8 +1,8 @@
 -- `search_ordered::pass` keeps within the table, and goes past at most n records: the bit is at most 1. Assumes nothing.
-use Prim.Native.Nat.{_+_, _-_, _*_}
+use Prim.Native.Nat.{_+_, _-_}
 use native.Mathlib.Omega.{arith}
-use lib.ListN.{getD}
 use borrow.Author.Needs.{needs}
+use Rattle.word.specs.Record.{recordAt}
 use Rattle.search_ordered.proofs.Search.{bit-times}
 use Rattle.search_ordered.proofs.pass.Statement.{statement}
 use Rattle.search_ordered.proofs.pass.Tie as tie
@@ -31,19 +31,19 @@ ends-before-requires c κs = search needs
 mul-result : tie.Need-mul-result
 mul-result c =
     let a = c .before .before .before .args in
-    let most = bit-times (a .n) _ (getD (a .table .now) ((a .p + a .n - 1) * 4 + 2) 0) (a .r .0) (c .ends-before .ensures) in
+    let most = bit-times (a .n) _ (recordAt (a .table .now) (a .p + a .n - 1) .upper) (a .r .0) (c .ends-before .ensures) in
     omega arith
 
 add-result : tie.Need-add-result
 add-result c =
     let a = c .before .before .before .args in
-    let most = bit-times (a .n) _ (getD (a .table .now) ((a .p + a .n - 1) * 4 + 2) 0) (a .r .0) (c .ends-before .ensures) in
+    let most = bit-times (a .n) _ (recordAt (a .table .now) (a .p + a .n - 1) .upper) (a .r .0) (c .ends-before .ensures) in
     omega arith
 
 returns : tie.Need-returns
 returns c =
     let a = c .before .before .before .args in
-    let most = bit-times (a .n) _ (getD (a .table .now) ((a .p + a .n - 1) * 4 + 2) 0) (a .r .0) (c .ends-before .ensures) in
+    let most = bit-times (a .n) _ (recordAt (a .table .now) (a .p + a .n - 1) .upper) (a .r .0) (c .ends-before .ensures) in
     omega arith
 
 pub pass-spec : {M : Type 1} → statement M

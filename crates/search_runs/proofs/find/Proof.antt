@@ -7,7 +7,7 @@ use lib.Seq.{length-take-le}
 use borrow.Author.Needs.{needs}
 use Rattle.finder.specs.declared.Found.the-variants.{At, Nothing}
 use Rattle.finder.specs.Find.{findIn}
-use Rattle.word.specs.Record.{used}
+use Rattle.word.specs.Record.{used, recordWords}
 use Rattle.word.proofs.Flat.{used-length}
 use Rattle.finder.proofs.Gap.{gap-most}
 use Rattle.finder.proofs.Says.{find-says, nothing-gap}
@@ -56,7 +56,7 @@ find-sorted-requires c κs =
     let t = s .args .table .now in
     let m = s .args .main in
     let n = s .args .count in
-    let long = length-take-le (n * 4 - m * 4) (drop (m * 4) t) (omega (arith, length-drop (m * 4) t)) in
+    let long = length-take-le (n * recordWords - m * recordWords) (drop (m * recordWords) t) (omega (arith, length-drop (m * recordWords) t)) in
     (omega arith, rw (run-words t m n (s .pre .0)) (s .pre .3))
 
 enum-known-k-2 : tie.Need-enum-known-k-2

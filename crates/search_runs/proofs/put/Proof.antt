@@ -4,7 +4,7 @@ use mathlib.Core.Path.{sym, _∙_}
 use native.Mathlib.Omega.{arith}
 use lib.ListN.{length, take, drop}
 use borrow.Author.Needs.{needs}
-use Rattle.word.specs.Record.{used}
+use Rattle.word.specs.Record.{used, recordWords}
 use Rattle.word.proofs.Flat.{used-length}
 use Rattle.finder.proofs.Gap.{gap-most}
 use Rattle.finder.proofs.Says.{nothing-gap, missing-nothing, not-both}
@@ -74,7 +74,7 @@ insert-requires c κs =
     let t = s .args .table .now in
     let m = s .args .main in
     let n = s .args .count - m in
-    let tail = take (length t - m * 4) (drop (m * 4) t) in
+    let tail = take (length t - m * recordWords) (drop (m * recordWords) t) in
     let long = tail-length t m (s .args .count) (s .pre .0) (s .pre .1) in
     let gap = nothing-gap (used tail n) (s .args .level) (s .args .r .0) (c .before .before .gap .given .0 .0) (sym (c .before .before .before .before .find-near .ensures) ∙ c .before .before .gap .given .1) in
     (omega (arith, gap, gap-most (used tail n) (s .args .level) (s .args .r .0), used-length tail n (omega arith)), omega arith)
@@ -87,7 +87,7 @@ returns-2 c =
     let s = c .before .before .before .before .before .before .before .before .before .before .before in
     let t = s .args .table .now in
     let m = s .args .main in
-    let tail = take (length t - m * 4) (drop (m * 4) t) in
+    let tail = take (length t - m * recordWords) (drop (m * recordWords) t) in
     put-second t m (s .args .count) (s .pre .0) (s .pre .1) (s .args .level) (s .args .r .0) (s .args .lower) (s .args .upper)
     (c .before .before .before .before .before .gap .given .0 .0) (c .before .before .insert .last .0)
     (nothing-gap (used tail (s .args .count - m)) (s .args .level) (s .args .r .0) (c .before .before .before .before .before .gap .given .0 .0) (sym (c .before .before .before .before .before .before .before .find-near .ensures) ∙ c .before .before .before .before .before .gap .given .1))

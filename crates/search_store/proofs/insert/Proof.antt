@@ -2,7 +2,7 @@
 use mathlib.Core.Path.{_∙_}
 use borrow.Author.Needs.{needs}
 use native.Mathlib.Omega.{arith}
-use Rattle.word.proofs.Flat.{recordFrom}
+use Rattle.word.specs.Record.{recordFrom}
 use Rattle.search_store.proofs.Insertion.{insert-leaves}
 use Rattle.search_store.proofs.insert.Statement.{statement}
 use Rattle.search_store.proofs.insert.Tie as tie

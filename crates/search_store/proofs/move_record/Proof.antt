@@ -1,4 +1,4 @@
--- `search_store::move_record` meets its contract: the four words that are read are the record. Assumes nothing.
+-- `search_store::move_record` meets its contract: the words that are read are the record. Assumes nothing.
 use borrow.Author.Needs.{needs}
 use Rattle.search_store.proofs.Stored.{words-at}
 use Rattle.search_store.proofs.move_record.Statement.{statement}

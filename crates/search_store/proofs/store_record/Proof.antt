@@ -1,8 +1,9 @@
--- `search_store::store_record` meets its contract, by the law of four stores. Assumes nothing.
+-- `search_store::store_record` meets its contract, by the law of a record's stores. Assumes nothing.
 use native.Mathlib.Omega.{arith}
 use lib.ListN.{length-set}
 use borrow.Author.Needs.{needs}
-use Rattle.word.proofs.Flat.{recordFrom, stored}
+use Rattle.word.specs.Record.{recordFrom}
+use Rattle.word.proofs.Flat.{stored}
 use Rattle.search_store.proofs.store_record.Statement.{statement}
 use Rattle.search_store.proofs.store_record.Tie as tie
 
