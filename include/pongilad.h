@@ -9,7 +9,7 @@
  *   A list is a pointer followed by its length. The length counts elements: 32-bit words for uint32_t, bytes for uint8_t,
  *   records for pongilad_node.
  *   Words are in the machine's own byte order.
- *   Any length is legal, also 0 and lengths that are no multiple of 4.
+ *   Any length is legal, also 0 and, for a table, lengths that are no multiple of PONGILAD_RECORD.
  *   The caller sees to it that
  *     - a pointer is not null, also where the length is 0, and is aligned for its element;
  *     - that many elements are there and are set, and may be written where the pointer is not const;
@@ -104,15 +104,19 @@ extern "C" {
 #define PONGILAD_FALSE UINT32_C(0xC0000000)
 #define PONGILAD_TRUE UINT32_C(0xC0000001)
 
-/* The words of a node record. */
-#define PONGILAD_RECORD 4
+/* How many words a node record has. */
+#define PONGILAD_RECORD 5
 
 /* The most nodes that a table takes, however long it is. */
 #define PONGILAD_NODES 65536
 
-/* A node record as a struct: the four words of a record in the table, in their order. */
+/* A node record as a struct: the five words of a record in the table, in their order.
+ *   level         from 1
+ *   lower, upper  the ends of the label, both included
+ *   first         the place of the node's first edge in the edge list
+ *   entering      how many edges lead to the node, 0 for the root */
 typedef struct {
-    uint32_t level, lower, upper, first;
+    uint32_t level, lower, upper, first, entering;
 } pongilad_node;
 
 /* What pongilad_encode replies.
@@ -159,10 +163,11 @@ typedef struct {
 } pongilad_text;
 
 /* Encodes the constraint of the words.
- *   table    a node record is four words: level from 1, lower end and upper end of the label, place of its first edge in the edge
- *            list. Nodes stand by level, then by lower end; a node's number is that of its record, from 0, and node 0 is the root.
- *            There is room for table_length / 4 nodes, rounded down, and for at most PONGILAD_NODES.
- *   edges    the children of each node, for y from 0 to d of its level's term, nodes in order.
+ *   table    a record of five words for each node, as in pongilad_node. Two edges of one node to another count twice.
+ *            Nodes stand by level, then by lower end; a node's number is that of its record, from 0, and node 0 is the root.
+ *            There is room for table_length / PONGILAD_RECORD nodes, rounded down, and for at most PONGILAD_NODES.
+ *   edges    the children of each node, for y from 0 to d of its level's term, nodes in order. Those of a node
+ *            end where those of the next begin, or at the reply's edges.
  *   clauses  with D the sum of all d: the order Booleans 1 to D, term by term, where Boolean (i, j), j from 1 to d, says that y of
  *            term i is below j; D + 1 is true; D + 2 is false; D + 3 + k is node k. First the order of each term's Booleans, then
  *            three single literals (true, not false, the root), then the edges of each node.
@@ -171,14 +176,16 @@ typedef struct {
  *            was written is the lower end plus y, or the upper end less y where the base form has the term negative.
  * Accepted: every word behind the counts of the reply is 0, up to the end of each lent list. A constraint that always holds and one
  * that never does have no node: the root's literal, which is then the last but one of the clause words, is that of D + 1 or D + 2.
- * Refused: see the table above. */
+ * Refused: see the table above. With 327,680 table words, 1,048,576 edge words and 4,131,462 clause words nothing is refused with
+ * 7 or 8, and with 6 only what has more than PONGILAD_NODES nodes. */
 pongilad_encoded pongilad_encode(const uint32_t *words, size_t words_length, uint32_t *table, size_t table_length, uint32_t *edges,
                                  size_t edges_length, uint32_t *clauses, size_t clauses_length);
 
 /* Finds the first record of the level whose label holds the remainder: lower end <= remainder <= upper end; or counts the gap.
- * Words behind the last full record of four are not read. Every table is legal, of any length and also one that no encoder wrote; words of 0 behind
- * the nodes are records of level 0 with the label 0 to 0, and the gap counts them (at level 0 where the remainder is above 0). In the nodes that
- * pongilad_encode counts, lent without what lies behind them, the gap is the number that a node with this remainder would have. */
+ * The last two words of a record make no difference, and words behind the last full record are not read. Every table is legal, of
+ * any length and also one that no encoder wrote; words of 0 behind the nodes are records of level 0 with the label 0 to 0, and the
+ * gap counts them (at level 0 where the remainder is above 0). In the nodes that pongilad_encode counts, lent without what lies
+ * behind them, the gap is the number that a node with this remainder would have. */
 pongilad_found pongilad_find(const uint32_t *table, size_t table_length, uint32_t level, uint32_t remainder);
 
 /* Finds the same in a table that is a list of records: nodes_length counts records, not words. The reply is that of pongilad_find

@@ -17,9 +17,9 @@ encode encode_a, encode_a2, encode_b, encode_b2;
 #define BUILDS 4
 static encode *const volatile builds[BUILDS] = {encode_a, encode_a2, encode_b, encode_b2};
 
-/* Words of a record, and the lengths that the limits ask for. */
-#define RECORD 4
-#define TABLE 262144
+/* Words of a record, and the lengths that the limits ask for. Both builds are lent these: one with records of four words takes them too, and replies the same. */
+#define RECORD 5
+#define TABLE (RECORD * 65536)
 #define EDGES 1048576
 #define CLAUSES 4194304
 static uint32_t table[TABLE], edges[EDGES], clauses[CLAUSES];

@@ -1,4 +1,5 @@
-/* Encodes 2[0..2] + 5[0..3] <= 12 and prints its diagram: the counts, then each node with its label and children. */
+/* Encodes 2[0..2] + 5[0..3] <= 12 and prints its diagram: the counts, then each node with its label, how many edges enter it,
+ * and its children. */
 #include <inttypes.h>
 #include <stdio.h>
 
@@ -34,7 +35,7 @@ int main(void)
     for (uint64_t k = 0; k < r.nodes; k++) {
         const uint32_t *record = table + k * PONGILAD_RECORD;
         uint64_t past = k + 1 < r.nodes ? record[PONGILAD_RECORD + 3] : r.edges;
-        printf("%" PRIu64 " %" PRIu32 " %" PRIu32 " %" PRIu32, k, record[0], record[1], record[2]);
+        printf("%" PRIu64 " %" PRIu32 " %" PRIu32 " %" PRIu32 " %" PRIu32, k, record[0], record[1], record[2], record[4]);
         for (uint64_t e = record[3]; e < past; e++)
             print_child(edges[e]);
         printf("\n");

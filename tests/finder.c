@@ -11,8 +11,8 @@ static uint32_t table[LENT * PONGILAD_RECORD];
 static uint32_t edges[64];
 static uint32_t clauses[256];
 
-/* Records in no order; that of the label 25 to 21 holds nothing. */
-static const pongilad_node unsorted[] = {{3, 0, 9, 0}, {2, 30, 40, 0}, {2, 25, 21, 0}, {1, 50, 60, 0}, {2, 5, 9, 0}, {2, 10, 20, 0}};
+/* Records in no order; that of the label 25 to 21 holds nothing. The last two fields of a record, edge place and count of edges, make no difference. */
+static const pongilad_node unsorted[] = {{3, 0, 9, 0, 2}, {2, 30, 40, 9, 0}, {2, 25, 21, 0, 1}, {1, 50, 60, 2, 3}, {2, 5, 9, 7, 0}, {2, 10, 20, 1, 9}};
 
 static void print_found(pongilad_found f)
 {

@@ -6,7 +6,7 @@ use finder::Found;
 use word::Remainder;
 ghost use Prim.Native.Nat.{_+_, _-_, _<_};
 ghost use lib.ListN.{length, getD};
-ghost use Rattle.word.specs.Record.{used, RecordsFit};
+ghost use Rattle.word.specs.Record.{labelled, RecordsFit};
 ghost use Rattle.finder.specs.Find.{Missing};
 ghost use Rattle.constraint.specs.Lent.{levelsOf, Lent};
 ghost use Rattle.diagram.specs.Level.{R};
@@ -60,7 +60,7 @@ fn build_node<'a>(
 ) -> Built
     requires { ⌜ Ready (now coefs) (now ends) (now rests) i ⌝ }
     requires { ⌜ Good (now coefs) (now ends) (now table) main count (length (now work)) × RecordsFit 1 (now work) ⌝ }
-    requires { ⌜ (r .0 < getD (now rests) i 0) × Missing (used (now table) count) (i + 1) (r .0) ⌝ }
+    requires { ⌜ (r .0 < getD (now rests) i 0) × Missing (labelled (now table) count) (i + 1) (r .0) ⌝ }
     ensures { λ b. ⌜ NodeOk (now (coefs .entry)) (now (ends .entry)) i (r .0) (now (table .entry)) count (length (now (work .entry))) (now (table .exit)) b ⌝ }
 {
     let row = build_row(coefs, ends, rests, table, work, main, count, i, r);
@@ -110,7 +110,7 @@ fn build_row<'a>(
     Built::Done(m, n, e)
 }
 
-// The diagram of an undecided bound, built into the table by way of the lent words: its records in order, the first place of each 0.
+// The diagram of an undecided bound, built into the table by way of the lent words: its records in order, with their levels and labels.
 pub fn build<'a>(
     coefs: &'a [u32],
     ends: &'a [u32],

@@ -3,7 +3,7 @@ use mathlib.Core.Path.{_≡_}
 use mathlib.Core.List.{List}
 use Prim.Native.Nat.{ℕ, _+_, _/_, _≤_}
 use lib.ListN.{length}
-use Rattle.word.specs.Record.{used, recordWords, RecordsFit}
+use Rattle.word.specs.Record.{labelled, recordWords, RecordsFit}
 use Rattle.search_runs.specs.Runs.{secondRun, Apart, Runs, Settled, PutIn}
 use Rattle.builder_steps.specs.declared.Ends.{Ends}
 use Rattle.builder_steps.specs.declared.Built.{Built}
@@ -12,7 +12,7 @@ use Rattle.builder_steps.specs.declared.Built.the-variants.{Done, Full}
 -- The table has `count` records in two runs, the first of m records and the second within w words, no two labels of a level overlapping.
 pub record Two (t : List ℕ) (m count w : ℕ) : Type 0 where
   pub runs : Runs t m count w
-  pub apart : Apart (used t m) (secondRun t m count)
+  pub apart : Apart (labelled t m) (secondRun t m count)
 
 -- A record was put into the second run, for which both were merged first if need be; or there was no room.
 pub record Put (t : List ℕ) (m count w level r : ℕ) (e : Ends) (t′ : List ℕ) (m′ n : ℕ) (e′ : Ends) : Type 0 where

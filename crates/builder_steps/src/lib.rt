@@ -7,7 +7,7 @@ use word::UPPER;
 ghost use mathlib.Core.Path.{_≡_};
 ghost use Prim.Native.Nat.{suc, _+_, _-_, _*_, _<_, min, max};
 ghost use lib.ListN.{length, getD};
-ghost use Rattle.word.specs.Record.{used, RecordsFit, recordAt};
+ghost use Rattle.word.specs.Record.{labelled, RecordsFit, recordAt};
 ghost use Rattle.finder.specs.Find.{Missing};
 ghost use Rattle.builder_steps.specs.Branch.{ends as ends′, branchOf, cutOf, overlapOf};
 ghost use Rattle.builder_steps.specs.Put.{Two, PutOk};
@@ -125,7 +125,7 @@ pub fn put(
     r: Remainder,
     e: Ends,
 ) -> Built
-    requires { ⌜ Two (now table) main count (length (now work)) × RecordsFit 1 (now work) × Missing (used (now table) count) level (r .0) ⌝ }
+    requires { ⌜ Two (now table) main count (length (now work)) × RecordsFit 1 (now work) × Missing (labelled (now table) count) level (r .0) ⌝ }
     ensures { λ b. ⌜ PutOk (now (table .entry)) main count (length (now (work .entry))) level (r .0) e (now (table .exit)) b ⌝ }
 {
     if table.len() / RECORD <= count {

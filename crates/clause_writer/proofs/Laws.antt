@@ -25,7 +25,7 @@ leads-inside ls ns D i (to n) z l = omega (arith, l .0 .0)
 
 pub right-drawing : {ls : List Level} {a : ℤ} {ns : List Node} {top : Edge} {ds : List ℕ} {D : ℕ} {t : List ℕ} {count : ℕ} {es : List ℕ}
     → Right ls a ns top → map (λ (l : Level). l .dom) ls ≡ ds → D ≡ orders ls → D + 2 + count ≤ lastBoolean
-    → used t count ≡ recordsFrom 0 ns → count ≡ length ns → take (length (edgeWords ns)) es ≡ edgeWords ns → Drawing ls ns ds D t count es top
+    → used t count ≡ recordsFrom ns 0 0 ns → count ≡ length ns → take (length (edgeWords ns)) es ≡ edgeWords ns → Drawing ls ns ds D t count es top
 right-drawing {ls} {a} {ns} {top} {ds} {D} {t} {count} {es} r ends booleans numbers records counted edges =
     record {
       ends = ends;

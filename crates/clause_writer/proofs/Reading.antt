@@ -15,6 +15,7 @@ use Rattle.clause.proofs.Written.{words-append}
 use Rattle.diagram.specs.Level.{Level}
 use Rattle.diagram.specs.Table.{Node, noNode}
 use Rattle.diagram.specs.Claim.{noLevel, nodeAt, levelAt}
+use Rattle.diagram.specs.Entering.{entering}
 use Rattle.diagram.specs.Flat.{recordOf, recordsFrom, edgeWords, endAt, firstPlace, Small}
 use Rattle.diagram.proofs.Places.{map-at}
 use Rattle.diagram.proofs.Written.{recordsFrom-length, record-drawn, place-inside, edges-in}
@@ -76,16 +77,16 @@ run-then xs ys l n e h =
 -- ---- Nodes
 
 -- the children that a record of a node holds, which begin with a place where they stand
-nodes-back : (ds es : List ℕ) (D first : ℕ) (ns : List Node)
+nodes-back : (ds es : List ℕ) (D : ℕ) (all : List Node) (k first : ℕ) (ns : List Node)
     → ((n : ℕ) → n < length ns → length (nodeAt ns n .children) ≡ suc (endAt ds (nodeAt ns n .level)))
     → ((n j : ℕ) → n < length ns → j < length (nodeAt ns n .children) → edgeBoolean D (getD (nodeAt ns n .children) j F) ≤ lastBoolean)
     → take (length (edgeWords ns)) (drop first es) ≡ edgeWords ns
-    → map (nodeFrom ds es) (recordsFrom first ns) ≡ ns
+    → map (nodeFrom ds es) (recordsFrom all k first ns) ≡ ns
 unfolding edgeWords recordsFrom
-nodes-back ds es D first [] filled fits e = refl
-nodes-back ds es D first (x ∷ xs) filled fits e =
+nodes-back ds es D all k first [] filled fits e = refl
+nodes-back ds es D all k first (x ∷ xs) filled fits e =
     ap₂ (λ (y : Node) (ys : List Node). y ∷ ys) node
-    (nodes-back ds es D (first + length (x .children)) xs (λ n h. filled (suc n) (omega arith)) (λ n j h k. fits (suc n) j (omega arith) k) later)
+    (nodes-back ds es D all (suc k) (first + length (x .children)) xs (λ n h. filled (suc n) (omega arith)) (λ n j h k. fits (suc n) j (omega arith) k) later)
   where
     many : length (x .children) ≡ suc (endAt ds (x .level))
     many = filled 0 (omega arith)
@@ -93,15 +94,15 @@ nodes-back ds es D first (x ∷ xs) filled fits e =
     row : length (x .children) ≡ length (map edgeWord (x .children))
     row = sym (length-map (x .children) edgeWord)
 
-    words : childWords ds es (recordOf first x) ≡ map edgeWord (x .children)
+    words : childWords ds es (recordOf first (entering k all) x) ≡ map edgeWord (x .children)
     words =
         ap (λ (n : ℕ). take n (drop first es)) (sym many)
         ∙ run-first (map edgeWord (x .children)) (edgeWords xs) (drop first es) (length (x .children)) row e
 
-    children : map edgeIn (childWords ds es (recordOf first x)) ≡ x .children
+    children : map edgeIn (childWords ds es (recordOf first (entering k all) x)) ≡ x .children
     children = ap (map edgeIn) words ∙ edges-in (x .children) (λ j h. small D (getD (x .children) j F) (fits 0 j (omega arith) h))
 
-    node : nodeFrom ds es (recordOf first x) ≡ x
+    node : nodeFrom ds es (recordOf first (entering k all) x) ≡ x
     node = λ i. record { level = x .level; lab = x .lab; children = children i }
 
     later : take (length (edgeWords xs)) (drop (first + length (x .children)) es) ≡ edgeWords xs
@@ -122,24 +123,24 @@ module _ {ls : List Level} {ns : List Node} {ds : List ℕ} {D : ℕ} {t : List 
   fits n j h k = omega (arith, d .child n j h k, d .numbers, d .counted)
 
   pub nodes-held : nodesHeld ds t count es ≡ ns
-  nodes-held = ap (map (nodeFrom ds es)) (d .records) ∙ nodes-back ds es D 0 ns rows fits (d .edges)
+  nodes-held = ap (map (nodeFrom ds es)) (d .records) ∙ nodes-back ds es D ns 0 0 ns rows fits (d .edges)
 
   pub booleans : D ≡ orders (ended ds)
   booleans = d .booleans ∙ sym (orders-ended ls) ∙ ap (λ (l : List ℕ). orders (ended l)) (d .ends)
 
   long : RecordsFit count t
-  long = omega (arith, ap length (d .records), length-take count (records t), records-length t, recordsFrom-length 0 ns, d .counted)
+  long = omega (arith, ap length (d .records), length-take count (records t), records-length t, recordsFrom-length ns 0 0 ns, d .counted)
 
   edges-long : length (edgeWords ns) ≤ length es
   edges-long = omega (arith, ap length (d .edges), length-take (length (edgeWords ns)) es)
 
-  record-is : (k : ℕ) → k < count → recordAt t k ≡ recordOf (0 + firstPlace ns k) (nodeAt ns k)
+  record-is : (k : ℕ) → k < count → recordAt t k ≡ recordOf (firstPlace ns k) (entering k ns) (nodeAt ns k)
   record-is = record-drawn t count ns long (d .records) (d .counted)
 
   node-is : (k : ℕ) → k < count → nodeFrom ds es (recordAt t k) ≡ nodeAt ns k
   node-is k h =
       ap (nodeFrom ds es) (sym (used-at t count long k h))
-      ∙ sym (map-at (nodeFrom ds es) (used t count) k noNode noRecord (omega (arith, ap length (d .records), recordsFrom-length 0 ns, d .counted)))
+      ∙ sym (map-at (nodeFrom ds es) (used t count) k noNode noRecord (omega (arith, ap length (d .records), recordsFrom-length ns 0 0 ns, d .counted)))
       ∙ ap (λ (xs : List Node). getD xs k noNode) nodes-held
 
   sound : (k : ℕ) → k < count → Sound ds D es (recordAt t k)

@@ -19,7 +19,7 @@ pub record Drawing (ls : List Level) (ns : List Node) (ds : List ℕ) (D : ℕ) 
   pub ends : map (λ (l : Level). l .dom) ls ≡ ds
   pub booleans : D ≡ orders ls
   pub numbers : D + 2 + count ≤ lastBoolean
-  pub records : used t count ≡ recordsFrom 0 ns
+  pub records : used t count ≡ recordsFrom ns 0 0 ns
   pub counted : count ≡ length ns
   pub edges : take (length (edgeWords ns)) es ≡ edgeWords ns
   -- each node is of one of the levels, and has a child for each value; no edge leads past the last node

@@ -10,5 +10,6 @@ pub mod Order
 pub mod Unique
 pub mod Drawn
 pub mod Terms
+pub mod Entering
 pub mod Written
 pub mod Reach

@@ -11,7 +11,7 @@ use Rattle.word.specs.Edge.{Edge}
 use Rattle.refusal.specs.declared.Refusal.{Refusal}
 use Rattle.refusal.specs.declared.Refusal.the-variants.{TooManyNodes, TooManyEdges, TooManyWords, TooManyBooleans}
 use Rattle.diagram.proofs.Terms.{levels-length}
-use Rattle.word.specs.Record.{used}
+use Rattle.word.specs.Record.{labelled}
 use Rattle.diagram.specs.Flat.{edgeCount}
 use Rattle.diagram.specs.Constraint.{Constraint}
 use Rattle.encoding.specs.Boolean.{orders}
@@ -75,7 +75,7 @@ module _ {cs ds rs : List ℕ} (L : Lent cs ds rs) {a : ℤ} {D : ℕ} {t : List
   c = constraintOf cs ds a
 
   pub countable : Countable ds t count
-  countable = table-countable cs ds rs L 0 a t count (B .few) (B .room) (B .records)
+  countable = table-countable cs ds rs L a t count (B .few) (B .room) (B .records)
 
   pub ends-le : length ds ≤ D
   ends-le = omega (arith, order-words (termsOf cs ds) (L .limited) .1, levels-length (termsOf cs ds), levels-count cs ds rs L, L .ends, B .booleans)
@@ -84,12 +84,12 @@ module _ {cs ds rs : List ℕ} (L : Lent cs ds rs) {a : ℤ} {D : ℕ} {t : List
   nodes-fit = omega (arith, B .counted, B .few, B .room)
 
   -- the counts that the code computes are the diagram's
-  pub counts-are : countsBy ds D (used t count) count ≡ countsOf c
+  pub counts-are : countsBy ds D (labelled t count) count ≡ countsOf c
   counts-are =
       let p : count ≡ length (nodesFor c) = B .counted in
-      let q : count + endSum ds (used t count) ≡ edgeCount (levelsIn c) (nodesFor c) = omega (arith, edge-sum cs ds rs L (nodesFor c) (used t count) 0 (B .records), B .counted) in
-      let r : 3 * (D - length ds) + 6 + 3 * count + 4 * endSum ds (used t count) ≡ wordCount (levelsIn c) (nodesFor c) =
-      omega (arith, word-sum cs ds rs L (nodesFor c) (used t count) 0 (B .records), B .counted, B .booleans, levels-count cs ds rs L, L .ends) in
+      let q : count + endSum ds (labelled t count) ≡ edgeCount (levelsIn c) (nodesFor c) = omega (arith, edge-sum cs ds rs L (nodesFor c) (labelled t count) (B .records), B .counted) in
+      let r : 3 * (D - length ds) + 6 + 3 * count + 4 * endSum ds (labelled t count) ≡ wordCount (levelsIn c) (nodesFor c) =
+      omega (arith, word-sum cs ds rs L (nodesFor c) (labelled t count) (B .records), B .counted, B .booleans, levels-count cs ds rs L, L .ends) in
       λ i. record { nodes = p i; edges = q i; words = r i }
 
 -- equal counts agree in each part

@@ -10,7 +10,7 @@ use Rattle.word.specs.Edge.{Edge, F, T, to}
 use Rattle.refusal.specs.declared.Refusal.the-variants.{TooManyNodes}
 use Rattle.diagram.specs.Level.{R}
 use Rattle.diagram.specs.Table.{table, root}
-use Rattle.diagram.specs.Flat.{recordOf, tableWords}
+use Rattle.diagram.specs.Flat.{bareOf, tableWords}
 use Rattle.encoding.specs.Boolean.{orders}
 use Rattle.encoding.specs.Pattern.{clauseWords}
 use Rattle.constraint.specs.Lent.{levelsOf}
@@ -20,7 +20,7 @@ use Rattle.encoder_levels.specs.Reply.{capacity, countsWithin}
 use Rattle.filler.specs.Filled.{nodesFor, rootFor, constraintOf, Tabled}
 use Rattle.encoder_levels.specs.Passes.{Cleared, leftIn, Answered}
 use Rattle.encoder_levels.proofs.Root.{root-F, root-T, root-to}
-use Rattle.filler.proofs.Lists.{used-append}
+use Rattle.filler.proofs.Lists.{labelled-append}
 use Rattle.encoder_levels.proofs.Answers.{refuse-6, refused-answer}
 
 -- the part of the table that may be filled
@@ -41,7 +41,7 @@ module _ (cs ds : List ℕ) (D : ℕ) (is : D ≡ orders (levelsOf cs ds)) where
         few = omega arith;
         room = omega arith;
         counted = ap length (sym (r .1));
-        records = ap (map (recordOf 0)) (sym (r .1));
+        records = ap (map bareOf) (sym (r .1));
       }
 
   -- below 0,
@@ -64,7 +64,7 @@ module _ (cs ds : List ℕ) (D : ℕ) (is : D ≡ orders (levelsOf cs ds)) where
         few = omega (arith, length-take (k * recordWords) t);
         room = omega (arith, length-append t′ (drop (k * recordWords) t));
         counted = W .count;
-        records = used-append t′ (drop (k * recordWords) t) n m ∙ W .records;
+        records = labelled-append t′ (drop (k * recordWords) t) n m ∙ W .records;
       }
 
 -- of the table and the clause buffer an answer depends on the lengths alone

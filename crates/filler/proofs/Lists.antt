@@ -1,10 +1,13 @@
 -- Records as words: the first records of a table are its first words, whatever stands behind. Assumes nothing.
-use mathlib.Core.Path.{_≡_, refl, ap, _∙_}
+use mathlib.Core.Path.{_≡_, sym, ap, _∙_}
 use mathlib.Core.List.{List, [], _∷_, _++_}
 use Prim.Native.Nat.{ℕ, zero, suc, _*_}
 use native.Mathlib.Omega.{arith}
 use lib.ListN.{take}
-use Rattle.word.specs.Record.{Record, flat, records, used, recordWords, RecordsFit}
+use lib.Seq.{take-append-le}
+use Rattle.word.specs.Record.{flat, records, labels, used, labelled, recordWords, RecordsFit}
+use Rattle.word.proofs.Flat.{record-next, records-take}
+use Rattle.word.proofs.Labels.{labels-take}
 
 -- the words of the first n records
 pub used-words : (t : List ℕ) (n : ℕ) → RecordsFit n t → take (n * recordWords) t ≡ flat (used t n)
@@ -14,16 +17,17 @@ used-words [] (suc n) h = absurd (omega arith)
 used-words (a ∷ []) (suc n) h = absurd (omega arith)
 used-words (a ∷ b ∷ []) (suc n) h = absurd (omega arith)
 used-words (a ∷ b ∷ c ∷ []) (suc n) h = absurd (omega arith)
-used-words (a ∷ b ∷ c ∷ d ∷ t) (suc n) h =
-    let e : suc n * recordWords ≡ suc (suc (suc (suc (n * recordWords)))) = omega arith in
-    ap (λ (k : ℕ). take k (a ∷ b ∷ c ∷ d ∷ t)) e ∙ ap (λ (ws : List ℕ). a ∷ b ∷ c ∷ d ∷ ws) (used-words t n (omega arith))
+used-words (a ∷ b ∷ c ∷ d ∷ []) (suc n) h = absurd (omega arith)
+used-words (a ∷ b ∷ c ∷ d ∷ e ∷ t) (suc n) h =
+    ap (λ (k : ℕ). take k (a ∷ b ∷ c ∷ d ∷ e ∷ t)) (record-next n) ∙ ap (λ (ws : List ℕ). a ∷ b ∷ c ∷ d ∷ e ∷ ws) (used-words t n (omega arith))
 
--- what stands behind the records does not count
-pub used-append : (t r : List ℕ) (n : ℕ) → RecordsFit n t → used (t ++ r) n ≡ used t n
-unfolding records
-used-append t r zero h = refl
-used-append [] r (suc n) h = absurd (omega arith)
-used-append (a ∷ []) r (suc n) h = absurd (omega arith)
-used-append (a ∷ b ∷ []) r (suc n) h = absurd (omega arith)
-used-append (a ∷ b ∷ c ∷ []) r (suc n) h = absurd (omega arith)
-used-append (a ∷ b ∷ c ∷ d ∷ t) r (suc n) h = ap (λ (xs : List Record). record { level = a; lower = b; upper = c; first = d } ∷ xs) (used-append t r n (omega arith))
+module _ (t r : List ℕ) (n : ℕ) (h : RecordsFit n t) where
+  same : take (n * recordWords) (t ++ r) ≡ take (n * recordWords) t
+  same = take-append-le (n * recordWords) t r h
+
+  -- the first n records of a table with room for them, and their labels
+  pub used-append : used (t ++ r) n ≡ used t n
+  used-append = sym (records-take n (t ++ r)) ∙ ap records same ∙ records-take n t
+
+  pub labelled-append : labelled (t ++ r) n ≡ labelled t n
+  labelled-append = sym (labels-take n (t ++ r)) ∙ ap labels same ∙ labels-take n t

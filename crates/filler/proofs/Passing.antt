@@ -87,7 +87,7 @@ module _ (cs ds rs : List ℕ) (L : Lent cs ds rs) (a : ℤ) where
         }
       where
         table-long : length (tableWords ns) ≡ count * recordWords
-        table-long = omega (arith, flat-length (recordsFrom 0 ns), recordsFrom-length 0 ns, B .counted)
+        table-long = omega (arith, flat-length (recordsFrom ns 0 0 ns), recordsFrom-length ns 0 0 ns, B .counted)
 
         words-front : take (n .words) ws′ ≡ clauseWords ls top ns
         words-front = ap (λ (k : ℕ). take k ws′) (M .words ∙ sym (W .words)) ∙ W .front ∙ ap (λ (x : Edge). clauseWords ls x ns) (B .root)

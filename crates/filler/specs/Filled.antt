@@ -6,10 +6,10 @@ use lib.IntN.{ℤ}
 use lib.ListN.{length}
 use Rattle.word.specs.Edge.{Edge}
 use Rattle.word.specs.Padded.{padded}
-use Rattle.word.specs.Record.{Record, mostNodes, used, RecordsFit}
+use Rattle.word.specs.Record.{Record, mostNodes, labelled, RecordsFit}
 use Rattle.diagram.specs.Level.{Level}
 use Rattle.diagram.specs.Table.{Node, table, root}
-use Rattle.diagram.specs.Flat.{recordOf, tableWords, edgeWords, edgeCount}
+use Rattle.diagram.specs.Flat.{bareOf, tableWords, edgeWords, edgeCount}
 use Rattle.diagram.specs.Constraint.{Constraint, levels}
 use Rattle.encoding.specs.Boolean.{orders}
 use Rattle.encoding.specs.Pattern.{clauseWords, wordCount}
@@ -46,7 +46,7 @@ pub record Tabled (c : Constraint) (D : ℕ) (top : Edge) (t : List ℕ) (count 
   pub few : count ≤ mostNodes
   pub room : RecordsFit count t
   pub counted : count ≡ length (nodesFor c)
-  pub records : used t count ≡ map (recordOf 0) (nodesFor c)
+  pub records : labelled t count ≡ map bareOf (nodesFor c)
 
 -- The counts are the constraint's, and the edge list and the clause buffer have room.
 pub record Roomy (c : Constraint) (n : Counts) (e w : List ℕ) : Type 0 where

@@ -2,12 +2,12 @@
 use word::Child;
 use word::RECORD;
 ghost use mathlib.Core.Path.{_≡_};
-ghost use Prim.Native.Nat.{_+_, _≤_};
+ghost use Prim.Native.Nat.{_≤_};
 ghost use lib.IntN.{ℤ};
 ghost use lib.ListN.{length};
 ghost use Rattle.word.specs.Edge.{edgeOf};
 ghost use Rattle.constraint.specs.Lent.{Lent};
-ghost use Rattle.word.specs.Record.{used};
+ghost use Rattle.word.specs.Record.{labelled};
 ghost use Rattle.linker.specs.Sum.{Countable};
 ghost use Rattle.filler.specs.Filled.{constraintOf, countsBy, Tabled, Roomy, Filled};
 
@@ -18,7 +18,7 @@ pub struct Counts {
     pub words: usize,
 }
 
-// The places in the table, the edge list and the clauses, with zeros behind each, where there is room for all.
+// The places and counts in the table, the edge list and the clauses, with zeros behind each, where there is room for all.
 pub fn fill<'a>(
     coefs: &'a [u32],
     ends: &'a [u32],
@@ -47,7 +47,7 @@ pub fn fill<'a>(
 pub fn count(ends: &[u32], orders: u32, table: &[u32], nodes: usize) -> Counts
     requires { ⌜ Countable (now ends) (now table) nodes ⌝ }
     requires { ⌜ (length (now ends) ≤ orders) ⌝ }
-    ensures { λ r. ⌜ r ≡ countsBy (now (ends .entry)) orders (used (now (table .entry)) nodes) nodes ⌝ }
+    ensures { λ r. ⌜ r ≡ countsBy (now (ends .entry)) orders (labelled (now (table .entry)) nodes) nodes ⌝ }
 {
     let sum = linker::sum_ends(ends, table, nodes);
     Counts {

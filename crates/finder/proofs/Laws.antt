@@ -8,7 +8,7 @@ use native.Mathlib.Numerals.{add-one}
 use native.Mathlib.Omega.{arith}
 use lib.ListN.{length, getD, take, drop, drop-of-length-le}
 use lib.Seq.{drop-cons, take-all, length-take-le}
-use Rattle.word.specs.Record.{Record, records, recordWords, recordAt, recordFrom}
+use Rattle.word.specs.Record.{Record, records, recordWords, noRecord, recordAt}
 use Rattle.finder.specs.declared.Found.{Found}
 use Rattle.finder.specs.declared.Found.the-variants.{At, Nothing}
 use Rattle.finder.specs.Find.{fieldsHold, holds, fieldsBefore, liesBefore, bitOf, gapIn, findFrom, findIn}
@@ -63,9 +63,9 @@ module _ (t : List ℕ) (wanted r k gap : ℕ) (p : Past (records t) wanted r k 
     here = omega (arith, records-length t)
 
     pub find-hit : b ≡ true → At (record { 0 = k }) ≡ findIn (records t) wanted r
-    find-hit f = past-hit (records t) wanted r k gap p (recordFrom 0 0 0 0) here (rw (record-at t k (recordFrom 0 0 0 0) here) (sym e ∙ f))
+    find-hit f = past-hit (records t) wanted r k gap p noRecord here (rw (record-at t k noRecord here) (sym e ∙ f))
 
     pub find-miss : b ≡ false → (c : ℕ) → c ≡ bitOf (fieldsBefore (recordAt t k .level) (recordAt t k .upper) wanted r) → Past (records t) wanted r (k + 1) (gap + c)
     find-miss f c q =
-        let at = record-at t k (recordFrom 0 0 0 0) here in
-        rw q (rw at at (past-miss (records t) wanted r k gap p (recordFrom 0 0 0 0) here (rw at (sym e ∙ f))))
+        let at = record-at t k noRecord here in
+        rw q (rw at at (past-miss (records t) wanted r k gap p noRecord here (rw at (sym e ∙ f))))

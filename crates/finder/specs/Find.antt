@@ -21,7 +21,7 @@ foundValues (Nothing gap) = record { found = 0; number = gap }
 abbrev pub fieldsHold : ℕ → ℕ → ℕ → ℕ → ℕ → Bool
 fieldsHold level lower upper wanted r = eqb level wanted && (leb lower r && leb r upper)
 
--- A record is of the wanted level and its label holds r. The place in the edge list is not read.
+-- A record is of the wanted level and its label holds r. The place in the edge list and the number of entering edges are not read.
 abbrev pub holds : Record → ℕ → ℕ → Bool
 holds x wanted r = fieldsHold (x .level) (x .lower) (x .upper) wanted r
 

@@ -6,7 +6,7 @@ use Rattle.finder_records.specs.declared.Node.{Node}
 
 -- The record with the same fields.
 abbrev pub fieldsOf : Node → Record
-fieldsOf n = record { level = n .level; lower = n .lower; upper = n .upper; first = n .first }
+fieldsOf n = record { level = n .level; lower = n .lower; upper = n .upper; first = n .first; entering = n .entering }
 
 -- THE RECORDS of a slice, in order.
 abbrev pub recordsOf : List Node → List Record

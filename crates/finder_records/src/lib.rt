@@ -9,13 +9,14 @@ ghost use Rattle.finder.specs.Find.{foundValues, findIn};
 ghost use Rattle.finder_records.specs.Nodes.{recordsOf};
 ghost use Rattle.finder_records.specs.Search.{gapOf, countedIn, stepped};
 
-// A node's record: its level, the lower and the upper end of its label, and the place of its first child in the edge list.
+// A node's record: its level, the lower and the upper end of its label, the place of its first child in the edge list, and the number of edges that enter it.
 #[repr(C)]
 pub struct Node {
     pub level: u32,
     pub lower: u32,
     pub upper: u32,
     pub first: u32,
+    pub entering: u32,
 }
 
 // How far a search has come: the number of the record that it reads next, and the reply so far.

@@ -6,11 +6,11 @@ use Prim.Native.Nat.{ℕ, zero, suc, _+_, _*_, _-_, _≤_, _<_}
 use native.Mathlib.Omega.{arith}
 use lib.IntN.{ℤ}
 use lib.ListN.{length, getD, length-map}
-use Rattle.word.specs.Record.{Record, noRecord, used, mostNodes, RecordsFit}
+use Rattle.word.specs.Record.{Record, noRecord, labelled, mostNodes, RecordsFit}
 use Rattle.diagram.specs.Table.{Node, noNode}
 use Rattle.diagram.specs.Claim.{nodeAt, levelAt, OfLevel}
 use Rattle.diagram.specs.Constraint.{Term, levels, lastEnd, AllLimited}
-use Rattle.diagram.specs.Flat.{recordOf, edgeCount}
+use Rattle.diagram.specs.Flat.{bareOf, edgeCount}
 use Rattle.diagram.proofs.Places.{map-at}
 use Rattle.diagram.proofs.Whole.{whole}
 use Rattle.diagram.proofs.Terms.{levels-length}
@@ -55,33 +55,33 @@ module _ (cs ds rs : List ℕ) (L : Lent cs ds rs) where
       (x .0, omega (arith, x .1, levels-count cs ds rs L), x .2, omega (arith, x .2 .1))
 
   -- THE LEVELS of the table's records
-  table-levelled : (f : ℕ) (a : ℤ) → Levelled (length ds) (map (recordOf f) (slicedNodes cs ds a))
-  table-levelled f a k h =
+  table-levelled : (a : ℤ) → Levelled (length ds) (map bareOf (slicedNodes cs ds a))
+  table-levelled a k h =
       let ns = slicedNodes cs ds a in
-      let l : k < length ns = omega (arith, length-map ns (recordOf f)) in
+      let l : k < length ns = omega (arith, length-map ns bareOf) in
       let x = slice-level a k l in
-      rw (map-at (recordOf f) ns k noRecord noNode l) (omega (arith, x .2 .1), omega (arith, x .2 .1, x .1, L .ends))
+      rw (map-at bareOf ns k noRecord noNode l) (omega (arith, x .2 .1), omega (arith, x .2 .1, x .1, L .ends))
 
   -- THE SUM OVER THE TABLE may be taken
-  pub table-countable : (f : ℕ) (a : ℤ) (t : List ℕ) (count : ℕ) → count ≤ mostNodes → RecordsFit count t → used t count ≡ map (recordOf f) (slicedNodes cs ds a) → Countable ds t count
-  table-countable f a t count h k e = record { few = h; room = k; ends = ends-fit; levels = rw e (table-levelled f a) }
+  pub table-countable : (a : ℤ) (t : List ℕ) (count : ℕ) → count ≤ mostNodes → RecordsFit count t → labelled t count ≡ map bareOf (slicedNodes cs ds a) → Countable ds t count
+  table-countable a t count h k e = record { few = h; room = k; ends = ends-fit; levels = rw e (table-levelled a) }
 
-  count-edges : (f : ℕ) (ns : List Node) → edgeCount (levelsOf cs ds) ns ≡ length ns + endSum ds (map (recordOf f) ns)
+  count-edges : (ns : List Node) → edgeCount (levelsOf cs ds) ns ≡ length ns + endSum ds (map bareOf ns)
   unfolding edgeCount endSum
-  count-edges f [] = refl
-  count-edges f (x ∷ xs) = omega (arith, count-edges f xs, dom-is cs ds (x .level - 1) (L .ends))
+  count-edges [] = refl
+  count-edges (x ∷ xs) = omega (arith, count-edges xs, dom-is cs ds (x .level - 1) (L .ends))
 
-  node-words : (f : ℕ) (ns : List Node) → nodeWords (levelsOf cs ds) ns ≡ 3 * length ns + 4 * endSum ds (map (recordOf f) ns)
+  node-words : (ns : List Node) → nodeWords (levelsOf cs ds) ns ≡ 3 * length ns + 4 * endSum ds (map bareOf ns)
   unfolding nodeWords endSum
-  node-words f [] = refl
-  node-words f (x ∷ xs) = omega (arith, node-words f xs, dom-is cs ds (x .level - 1) (L .ends))
+  node-words [] = refl
+  node-words (x ∷ xs) = omega (arith, node-words xs, dom-is cs ds (x .level - 1) (L .ends))
 
-  module _ (ns : List Node) (xs : List Record) (f : ℕ) (e : xs ≡ map (recordOf f) ns) where
+  module _ (ns : List Node) (xs : List Record) (e : xs ≡ map bareOf ns) where
     -- THE EDGE COUNT, from the sum over the nodes' records
     pub edge-sum : edgeCount (levelsOf cs ds) ns ≡ length ns + endSum ds xs
-    edge-sum = count-edges f ns ∙ ap (λ (ys : List Record). length ns + endSum ds ys) (sym e)
+    edge-sum = count-edges ns ∙ ap (λ (ys : List Record). length ns + endSum ds ys) (sym e)
 
     -- THE CLAUSE WORD COUNT
     pub word-sum : wordCount (levelsOf cs ds) ns ≡ 3 * (orders (levelsOf cs ds) - length (levelsOf cs ds)) + 6 + 3 * length ns + 4 * endSum ds xs
     word-sum =
-        omega (arith, order-words (termsOf cs ds) (L .limited), node-words f ns, levels-length (termsOf cs ds), ap (endSum ds) e)
+        omega (arith, order-words (termsOf cs ds) (L .limited), node-words ns, levels-length (termsOf cs ds), ap (endSum ds) e)

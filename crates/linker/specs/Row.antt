@@ -1,12 +1,12 @@
--- CHILDREN BY THE RECORDS: where each child of a record leads, as a search among the records tells, and the records with their first places. What the
+-- CHILDREN BY THE RECORDS: where each child of a record leads, as a search among the records tells, and where its children begin. What the
 -- functions of this crate that are not public compute. Assumes nothing.
-use Prim.Native.Nat.{ℕ, _+_, _-_, _*_}
+use Prim.Native.Nat.{ℕ, zero, suc, _+_, _-_, _*_}
 use mathlib.Core.List.{List, [], _∷_, _++_}
 use mathlib.Core.Bool.{cond}
 use lib.Dec.{leb}
 use lib.IntN.{ℤ, pos, negsuc, subℕ}
 use lib.ListN.{getD}
-use Rattle.word.specs.Edge.{Edge, F, T, to, edgeWord}
+use Rattle.word.specs.Edge.{Edge, F, T, to}
 use Rattle.word.specs.Record.{Record}
 use Rattle.diagram.specs.Table.{row}
 use Rattle.finder.specs.declared.Found.{Found}
@@ -24,24 +24,21 @@ abbrev pub leadsTo : List Record → ℕ → ℕ → ℤ → Edge
 leadsTo xs level top (negsuc z) = F
 leadsTo xs level top (pos r) = cond (leb top r) T (edgeFound (findIn xs level r))
 
--- The words of the children of a lower end, for the values 0 to `end`, where j takes coef × j; `level` and `top` are those of the level below.
-unfoldable pub rowOf : List Record → ℕ → ℕ → ℕ → ℕ → ℕ → List ℕ
-rowOf xs level top coef end lower = row (λ j. edgeWord (leadsTo xs level top (subℕ lower (coef * j)))) end
+-- The children of a lower end, for the values 0 to `end`, where j takes coef × j; `level` and `top` are those of the level below.
+unfoldable pub rowOf : List Record → ℕ → ℕ → ℕ → ℕ → ℕ → List Edge
+rowOf xs level top coef end lower = row (λ j. leadsTo xs level top (subℕ lower (coef * j))) end
 
 -- The same at level i, counted from 0, of the slices.
-abbrev pub rowAt : List ℕ → List ℕ → List ℕ → List Record → ℕ → ℕ → List ℕ
+abbrev pub rowAt : List ℕ → List ℕ → List ℕ → List Record → ℕ → ℕ → List Edge
 rowAt cs ds rs xs i lower = rowOf xs (i + 2) (getD rs (i + 1) 0) (getD cs i 0) (getD ds i 0) lower
 
--- The words of the children of each record of a run ys, searched for among the records xs.
-unfoldable pub rowsOf : List ℕ → List ℕ → List ℕ → List Record → List Record → List ℕ
+-- The children of each record of a run ys, searched for among the records xs.
+unfoldable pub rowsOf : List ℕ → List ℕ → List ℕ → List Record → List Record → List Edge
 rowsOf cs ds rs xs [] = []
 rowsOf cs ds rs xs (y ∷ ys) = rowAt cs ds rs xs (y .level - 1) (y .lower) ++ rowsOf cs ds rs xs ys
 
--- A record with its children's first place.
-abbrev pub placed : ℕ → Record → Record
-placed first x = record { level = x .level; lower = x .lower; upper = x .upper; first = first }
-
--- A run of records with theirs, from a place on.
-unfoldable pub linkedFrom : List ℕ → ℕ → List Record → List Record
-linkedFrom ds first [] = []
-linkedFrom ds first (x ∷ xs) = placed first x ∷ linkedFrom ds (first + (endAt ds (x .level) + 1)) xs
+-- The first place of record n's children, where each record has a child for each value of its level.
+unfoldable pub placeIn : List ℕ → List Record → ℕ → ℕ
+placeIn ds xs zero = 0
+placeIn ds [] (suc n) = 0
+placeIn ds (x ∷ xs) (suc n) = endAt ds (x .level) + 1 + placeIn ds xs n

@@ -2,7 +2,7 @@
 use Prim.Native.Nat.{ℕ, _+_, _≤_, _<_}
 use mathlib.Core.List.{List, [], _∷_}
 use lib.ListN.{length, getD}
-use Rattle.word.specs.Record.{Record, mostNodes, noRecord, used, RecordsFit}
+use Rattle.word.specs.Record.{Record, mostNodes, noRecord, labelled, RecordsFit}
 use Rattle.diagram.specs.Flat.{endAt}
 use Rattle.diagram.specs.Constraint.{lastEnd}
 
@@ -24,4 +24,4 @@ pub record Countable (ds t : List ℕ) (count : ℕ) : Type 0 where
   pub few : count ≤ mostNodes
   pub room : RecordsFit count t
   pub ends : EndsFit ds
-  pub levels : Levelled (length ds) (used t count)
+  pub levels : Levelled (length ds) (labelled t count)

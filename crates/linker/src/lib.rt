@@ -1,23 +1,26 @@
-// From the records of a finished table: the sum of domain ends, and the edge list with each record's place in it.
+// From the labels of a finished table: the sum of domain ends, and the edge list with each record's place in it and the edges that enter its node.
 use constraint::Constraint;
 use finder::Found;
 use word::Child;
+use word::ENTERING;
 use word::FIRST;
 use word::LOWER;
 use word::RECORD;
 use word::Remainder;
 ghost use mathlib.Core.Path.{_≡_};
+ghost use mathlib.Core.List.{map};
 ghost use Prim.Native.Nat.{_+_, _≤_};
 ghost use lib.IntN.{ℤ, subℕ};
 ghost use lib.ListN.{length};
 ghost use lib.Seq.{paste};
-ghost use Rattle.word.specs.Record.{mostNodes, used, RecordsFit};
+ghost use Rattle.word.specs.Record.{mostNodes, labelled, RecordsFit};
 ghost use Rattle.diagram.specs.Constraint.{lastEnd, lastCoefficient};
-ghost use Rattle.word.specs.Edge.{edgeOf};
+ghost use Rattle.word.specs.Edge.{edgeWord, edgeOf};
 ghost use Rattle.search_ordered.specs.Order.{Sorted};
 ghost use Rattle.constraint.specs.Lent.{Lent};
 ghost use Rattle.linker.specs.Sum.{endSum, Countable};
 ghost use Rattle.linker.specs.Row.{leadsTo, rowOf};
+ghost use Rattle.linker.specs.Counting.{CanEnter, CountsFit, enteredBy, entered, unentered};
 ghost use Rattle.linker.specs.Linked.{Finished, Linked};
 
 // The most values of a level, 0 to its domain end.
@@ -26,7 +29,7 @@ const VALUES: usize = Constraint::END as usize + 1;
 // The sum, over the first `count` records, of the domain end of the record's level.
 pub fn sum_ends(ends: &[u32], table: &[u32], count: usize) -> usize
     requires { ⌜ Countable (now ends) (now table) count ⌝ }
-    ensures { λ s. ⌜ s ≡ endSum (now (ends .entry)) (used (now (table .entry)) count) ⌝ }
+    ensures { λ s. ⌜ s ≡ endSum (now (ends .entry)) (labelled (now (table .entry)) count) ⌝ }
 {
     let mut sum: usize = 0;
     let mut k: usize = 0;
@@ -49,8 +52,8 @@ fn child(
     lower: u32,
     taken: u32,
 ) -> Child
-    requires { ⌜ RecordsFit count (now table) × Sorted (used (now table) count) ⌝ }
-    ensures { λ c. ⌜ edgeOf c ≡ leadsTo (used (now (table .entry)) count) level top (subℕ lower taken) ⌝ }
+    requires { ⌜ RecordsFit count (now table) × Sorted (labelled (now table) count) ⌝ }
+    ensures { λ c. ⌜ edgeOf c ≡ leadsTo (labelled (now (table .entry)) count) level top (subℕ lower taken) ⌝ }
 {
     if lower < taken {
         return Child::False;
@@ -65,10 +68,34 @@ fn child(
     Child::Node(k)
 }
 
-// Writes the words of the children of `lower` from a place of the edges on; `level` and `top` are those of the level below. The child of value j is
-// searched for from cursor j on.
+// Sets the numbers of entering edges of the first `count` records to 0.
+fn clear_entering(table: &mut [u32], count: usize)
+    requires { ⌜ RecordsFit count (now table) ⌝ }
+    ensures { λ _. ⌜ now (table .exit) ≡ unentered (now (table .entry)) count ⌝ }
+{
+    let mut n = 0;
+    while n < count {
+        table[n * RECORD + ENTERING] = 0;
+        n += 1;
+    }
+}
+
+// Counts an edge at the node that it leads to.
+fn enter(table: &mut [u32], c: Child)
+    requires { ⌜ CanEnter (now table) (edgeOf c) ⌝ }
+    ensures { λ _. ⌜ now (table .exit) ≡ enteredBy (now (table .entry)) (edgeOf c) ⌝ }
+{
+    let Child::Node(k) = c else {
+        return;
+    };
+    let at = k.0 * RECORD + ENTERING;
+    table[at] += 1;
+}
+
+// Writes the words of the children of `lower` from a place of the edges on, and counts each at its node; `level` and `top` are those of the level below. The
+// child of value j is searched for from cursor j on.
 fn row(
-    table: &[u32],
+    table: &mut [u32],
     count: usize,
     cursors: &mut [usize; VALUES],
     level: u32,
@@ -79,9 +106,11 @@ fn row(
     edges: &mut [u32],
     first: usize,
 )
-    requires { ⌜ (count ≤ mostNodes) × RecordsFit count (now table) × Sorted (used (now table) count) ⌝ }
+    requires { ⌜ (count ≤ mostNodes) × RecordsFit count (now table) × Sorted (labelled (now table) count) ⌝ }
     requires { ⌜ (coef ≤ lastCoefficient) × (end ≤ lastEnd) × (first + (end + 1) ≤ length (now edges)) ⌝ }
-    ensures { λ _. ⌜ now (edges .exit) ≡ paste (now (edges .entry)) first (rowOf (used (now (table .entry)) count) level top coef end lower) (end + 1) ⌝ }
+    requires { ⌜ CountsFit (now table) count ⌝ }
+    ensures { λ _. ⌜ now (edges .exit) ≡ paste (now (edges .entry)) first (map edgeWord (rowOf (labelled (now (table .entry)) count) level top coef end lower)) (end + 1) ⌝ }
+    ensures { λ _. ⌜ now (table .exit) ≡ entered (now (table .entry)) (rowOf (labelled (now (table .entry)) count) level top coef end lower) ⌝ }
 {
     let mut taken: u32 = 0;
     let mut j: u32 = 0;
@@ -89,13 +118,14 @@ fn row(
         let at = j as usize;
         let c = child(table, count, &mut cursors[at], level, top, lower, taken);
         edges[first + at] = word::edge_word(c);
+        enter(table, c);
         taken += coef;
         j += 1;
     }
 }
 
-// Writes the edge list, and into each of the first `count` records its place there. As the records are in order, so are the children of one value: the
-// value's cursor only moves on.
+// Writes the edge list, and into each of the first `count` records its place there and how many edges enter its node. As the records are in order, so are the
+// children of one value: the value's cursor only moves on.
 pub fn link<'a>(
     coefs: &'a [u32],
     ends: &'a [u32],
@@ -109,6 +139,7 @@ pub fn link<'a>(
     ensures { λ _. ⌜ ((a : ℤ) → Finished (now (coefs .entry)) (now (ends .entry)) a (now (table .entry)) count (now (edges .entry))
         → Linked (now (coefs .entry)) (now (ends .entry)) a (now (table .entry)) count (now (edges .entry)) (now (table .exit)) (now (edges .exit))) ⌝ }
 {
+    clear_entering(table, count);
     let mut cursors = [0usize; VALUES];
     let mut first: usize = 0;
     let mut k = 0;

@@ -1,5 +1,5 @@
--- NO TEXT IS LONGER than its buffer with the program's room: a diagram's has at most 131,072 bytes, as numbers have at most 8 digits, children at most 10, and a
--- line 36 bytes besides its children; the clauses' has at most 196,608, as a word takes at most 11.
+-- NO TEXT IS LONGER than its buffer with the program's room: a diagram's has at most 131,072 bytes, as numbers, node numbers among them, have at most 8 digits,
+-- and a line 45 bytes besides its children; the clauses' has at most 196,608, as a word takes at most 11.
 -- Assumes nothing.
 use mathlib.Core.Path.{_≡_, refl, sym, ap, ap₂, _∙_}
 use mathlib.Core.List.{List, [], _∷_, _++_, map}
@@ -21,10 +21,12 @@ use Rattle.refusal.specs.declared.Checked.{Checked}
 use Rattle.refusal.specs.declared.Checked.the-variants as check
 use Rattle.diagram.specs.Table.{Node}
 use Rattle.diagram.specs.Claim.{nodeAt}
-use Rattle.diagram.specs.Flat.{edgeWords, edgeCount, Small}
+use Rattle.diagram.specs.Entering.{entering}
+use Rattle.diagram.specs.Flat.{edgeWords, edgeCount}
 use Rattle.diagram.specs.Constraint.{Constraint, Within}
 use Rattle.diagram.proofs.Terms.{levels-ascend, levels-length}
 use Rattle.diagram.proofs.Drawn.{table-right}
+use Rattle.diagram.proofs.Entering.{Inside, entering-few, right-inside}
 use Rattle.encoding.specs.Boolean.{orders}
 use Rattle.encoding.specs.Pattern.{wordCount}
 use Rattle.encoding.proofs.Fits.{own-level}
@@ -39,7 +41,7 @@ use Rattle.encoder_levels.specs.declared.Encoded.the-variants.{Accepted, Refuse
 use Rattle.encoder_levels.specs.Reply.{capacity, refuseIf, countsWithin}
 use Rattle.encoder.specs.Encoded.{encoded}
 use Rattle.filler.specs.Filled.{levelsIn, nodesFor, rootFor, clausesFor}
-use Rattle.encoder.proofs.Meant.{plain, edges-length, clauseWords-length}
+use Rattle.encoder.proofs.Meant.{edges-length, clauseWords-length}
 use Rattle.encoder_levels.proofs.Answers.{countsOf}
 use Rattle.printout_lines.specs.Text.{child, children, nodeLine, nodeLines, countsLine, refusalLine, nodesWord, edgesWord, wordsWord, refusedWord, atWord, newline, field, tooLong, badLength}
 use Rattle.printout.specs.Shown.{mostBytes, mostWords, roomNodes, roomTable, roomEdges, roomClauses, wordsIn, acceptedText, replyText, wordsText, shownIn, shown, Shows, ShowsAll}
@@ -57,26 +59,24 @@ eight n h = digits-few 7 n h
 
 -- ---- Lines
 
-child-few : (e : Edge) → Small e → length (child e) ≤ 10
-child-few F s = omega arith
-child-few T s = omega arith
-child-few (to k) s = digits-few 9 k (le k s)
-  where
-    le : (k : ℕ) → k < 0xC0000000 → k < 10000000000
-    le k s = omega arith
+-- a child that is one of at most 100,000,000 nodes
+child-few : (n : ℕ) (e : Edge) → n ≤ 100000000 → Inside n e → length (child e) ≤ 8
+child-few n F h i = omega arith
+child-few n T h i = omega arith
+child-few n (to k) h i = eight k (omega arith)
 
-children-few : (es : List Edge) → ((j : ℕ) → j < length es → Small (getD es j F)) → length (children es) ≤ 11 * length es
+children-few : (n : ℕ) (es : List Edge) → n ≤ 100000000 → ((j : ℕ) → j < length es → Inside n (getD es j F)) → length (children es) ≤ 9 * length es
 unfolding children
-children-few [] s = omega arith
-children-few (e ∷ es) s =
-    omega (arith, length-append (32 ∷ child e) (children es), child-few e (s 0 (omega arith)), children-few es (λ j h. s (suc j) (omega arith)))
+children-few n [] h i = omega arith
+children-few n (e ∷ es) h i =
+    omega (arith, length-append (32 ∷ child e) (children es), child-few n e h (i 0 (omega arith)), children-few n es h (λ j l. i (suc j) (omega arith)))
 
--- what makes a node's line short
-record Short (x : Node) : Type 0 where
+-- what makes the line of one of n nodes short
+record Short (n : ℕ) (x : Node) : Type 0 where
   level : x .level < 100000000
   lower : x .lab .lower < 100000000
   upper : x .lab .upper < 100000000
-  small : (j : ℕ) → j < length (x .children) → Small (getD (x .children) j F)
+  inside : (j : ℕ) → j < length (x .children) → Inside n (getD (x .children) j F)
 
 length-six : (a b c d e f : List ℕ) → length (a ++ b ++ c ++ d ++ e ++ f) ≡ length a + length b + length c + length d + length e + length f
 length-six a b c d e f =
@@ -89,30 +89,32 @@ length-six a b c d e f =
       length-append a b,
     )
 
-line-few : (k : ℕ) (x : Node) → k < 100000000 → Short x → length (nodeLine k x) ≤ 36 + 11 * length (x .children)
-line-few k x h s =
+line-few : (n k count : ℕ) (x : Node) → n ≤ 100000000 → k < n → count < 100000000 → Short n x → length (nodeLine k count x) ≤ 45 + 9 * length (x .children)
+line-few n k count x h l e s =
     omega (
       arith,
-      length-six (decimal k) (field (x .level)) (field (x .lab .lower)) (field (x .lab .upper)) (children (x .children)) newline,
-      eight k h,
+      length-append (decimal k ++ field (x .level) ++ field (x .lab .lower) ++ field (x .lab .upper) ++ field count ++ children (x .children)) newline,
+      length-six (decimal k) (field (x .level)) (field (x .lab .lower)) (field (x .lab .upper)) (field count) (children (x .children)),
+      eight k (omega arith),
       eight (x .level) (s .level),
       eight (x .lab .lower) (s .lower),
       eight (x .lab .upper) (s .upper),
-      children-few (x .children) (s .small),
+      eight count e,
+      children-few n (x .children) h (s .inside),
     )
 
-lines-few : (k : ℕ) (ns : List Node) → k + length ns ≤ 100000000 → ((m : ℕ) → m < length ns → Short (nodeAt ns m))
-    → length (nodeLines k ns) ≤ 36 * length ns + 11 * length (edgeWords ns)
+lines-few : (all : List Node) → length all ≤ 100000000 → length (edgeWords all) < 100000000 → (k : ℕ) (ns : List Node) → k + length ns ≤ length all
+    → ((m : ℕ) → m < length ns → Short (length all) (nodeAt ns m)) → length (nodeLines all k ns) ≤ 45 * length ns + 9 * length (edgeWords ns)
 unfolding nodeLines edgeWords
-lines-few k [] h s = omega arith
-lines-few k (x ∷ xs) h s =
+lines-few all few edges k [] h s = omega arith
+lines-few all few edges k (x ∷ xs) h s =
     omega (
       arith,
-      length-append (nodeLine k x) (nodeLines (suc k) xs),
+      length-append (nodeLine k (entering k all) x) (nodeLines all (suc k) xs),
       length-append (map edgeWord (x .children)) (edgeWords xs),
       length-map (x .children) edgeWord,
-      line-few k x (omega arith) (s 0 (omega arith)),
-      lines-few (suc k) xs (omega arith) (λ m l. s (suc m) (omega arith)),
+      line-few (length all) k (entering k all) x few (omega arith) (omega (arith, entering-few k all)) (s 0 (omega arith)),
+      lines-few all few edges (suc k) xs (omega arith) (λ m l. s (suc m) (omega arith)),
     )
 
 counts-few : (n : Counts) → n .nodes < 100000000 → n .edges < 100000000 → n .words < 100000000 → length (countsLine n) ≤ 45
@@ -180,16 +182,17 @@ sized-counted c n t e w = go (ltb (capacity t) (length (nodesFor c))) refl (ltb 
 
 -- ---- The nodes
 
-nodes-short : (c : Constraint) → Within c → length (nodesFor c) ≤ mostNodes → (m : ℕ) → m < length (nodesFor c) → Short (nodeAt (nodesFor c) m)
-nodes-short c within few m h =
-    let l = own-level (levelsIn c) (c .bound) (nodesFor c) (rootFor c) (table-right (levelsIn c) (c .bound) (levels-ascend (c .terms))) m h in
+nodes-short : (c : Constraint) → Within c → (m : ℕ) → m < length (nodesFor c) → Short (length (nodesFor c)) (nodeAt (nodesFor c) m)
+nodes-short c within m h =
+    let right = table-right (levelsIn c) (c .bound) (levels-ascend (c .terms)) in
+    let l = own-level (levelsIn c) (c .bound) (nodesFor c) (rootFor c) right m h in
     let b = label-ends (levelsIn c) (levels-ascend (c .terms)) (c .bound) m (l .0) (l .2) in
     let r = rest-fits c within (l .0) in
     record {
       level = omega (arith, l .2 .1, l .1, levels-length (c .terms), within .few);
       lower = omega (arith, b .0, b .1, r);
       upper = omega (arith, b .1, r);
-      small = plain c within few m h .numbers;
+      inside = right-inside (levelsIn c) (c .bound) (nodesFor c) (rootFor c) right m h;
     }
 
 -- ---- The text
@@ -204,14 +207,13 @@ accepted-fit : (f : Form) (c : Constraint) → Within c → (m : Counts) → Siz
 accepted-fit Diagram c within m s =
     let few : length (nodesFor c) ≤ roomNodes = omega (arith, s .1) in
     let wide : length (nodesFor c) ≤ mostNodes = omega arith in
+    let edges : length (edgeWords (nodesFor c)) ≤ roomEdges = omega (arith, edges-length c within wide, s .2) in
     let n = s .0 in
     omega (
       arith,
-      length-append (countsLine m) (nodeLines 0 (nodesFor c)),
+      length-append (countsLine m) (nodeLines (nodesFor c) 0 (nodesFor c)),
       counts-few m (omega (arith, ap (λ (k : Counts). k .nodes) n)) (omega (arith, ap (λ (k : Counts). k .edges) n, s .2)) (omega (arith, ap (λ (k : Counts). k .words) n, s .3)),
-      lines-few 0 (nodesFor c) (omega arith) (nodes-short c within wide),
-      edges-length c within wide,
-      s .2,
+      lines-few (nodesFor c) (omega arith) (omega arith) 0 (nodesFor c) (omega arith) (nodes-short c within),
     )
 accepted-fit Clauses c within m s =
     let wide : length (nodesFor c) ≤ mostNodes = omega (arith, s .1) in

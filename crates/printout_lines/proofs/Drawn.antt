@@ -9,14 +9,15 @@ use native.Mathlib.Omega.{arith}
 use lib.ListN.{length, take, drop, length-append, length-map, length-take, take-append-drop, drop-of-length-le}
 use lib.Seq.{drop-cons, take-at, drop-at, drop-drop}
 use Rattle.word.specs.Edge.{edgeWord, edgeIn}
-use Rattle.word.specs.Record.{Record, noRecord, recordAt}
+use Rattle.word.specs.Record.{Record, recordAt}
 use Rattle.word.proofs.Kept.{Parts}
 use Rattle.diagram.specs.Table.{Node, noNode}
 use Rattle.diagram.specs.Claim.{nodeAt}
+use Rattle.diagram.specs.Entering.{entering}
 use Rattle.diagram.specs.Flat.{recordOf, edgeWords, firstPlace}
 use Rattle.diagram.proofs.Written.{record-drawn, place-inside, edges-in}
 use Rattle.printout_lines.specs.Text.{nodeLine, nodeLines}
-use Rattle.printout_lines.specs.Lying.{Lying}
+use Rattle.printout_lines.specs.Lying.{Lying, heldNode}
 
 -- ---- Places in the edge list
 
@@ -49,16 +50,20 @@ row-at (x ∷ xs) rest (suc k) h =
 
 -- ---- Nodes
 
+-- the words of a node's edges, from one place up to another
+abbrev pub edgesHeld : List ℕ → ℕ → ℕ → List ℕ
+edgesHeld es first past = take (past - first) (drop first es)
+
 -- the lines from node k on
 abbrev pub linesLeft : List Node → ℕ → List ℕ
-linesLeft ns k = nodeLines k (drop k ns)
+linesLeft ns k = nodeLines ns k (drop k ns)
 
 module _ {ns : List Node} {t : List ℕ} {count : ℕ} {es : List ℕ} {total : ℕ} (l : Lying ns t count es total) where
-  record-is : (k : ℕ) → k < count → recordAt t k ≡ recordOf (0 + firstPlace ns k) (nodeAt ns k)
+  record-is : (k : ℕ) → k < count → recordAt t k ≡ recordOf (firstPlace ns k) (entering k ns) (nodeAt ns k)
   record-is = record-drawn t count ns (l .room) (l .records) (l .counted)
 
   pub first-is : (k : ℕ) → k < count → recordAt t k .first ≡ firstPlace ns k
-  first-is k h = omega (arith, ap (λ (x : Record). x .first) (record-is k h))
+  first-is k h = ap (λ (x : Record). x .first) (record-is k h)
 
   total-is : total ≡ length (edgeWords ns)
   total-is = omega (arith, ap length (l .edges), length-take total es, l .wide)
@@ -73,7 +78,7 @@ module _ {ns : List Node} {t : List ℕ} {count : ℕ} {es : List ℕ} {total : 
       (omega arith, omega (arith, place-inside ns k (omega (arith, l .counted)), total-is, l .wide))
 
   children-are : (k first past : ℕ) → k < count → first ≡ firstPlace ns k → past ≡ firstPlace ns (k + 1)
-      → map edgeIn (take (past - first) (drop first es)) ≡ nodeAt ns k .children
+      → map edgeIn (edgesHeld es first past) ≡ nodeAt ns k .children
   children-are k first past h p q =
       let n : firstPlace ns (k + 1) ≡ firstPlace ns k + length (nodeAt ns k .children) = ap (firstPlace ns) (add-one k) ∙ place-next ns k (omega (arith, l .counted)) in
       let s : past - first ≡ length (nodeAt ns k .children) = omega arith in
@@ -83,33 +88,26 @@ module _ {ns : List Node} {t : List ℕ} {count : ℕ} {es : List ℕ} {total : 
       ∙ row-at ns (drop total es) k (omega (arith, l .counted)))
       ∙ edges-in (nodeAt ns k .children) (λ j m. l .plain k j (omega (arith, l .counted)) m)
 
-  -- the node that the code reads
-  abbrev pub heldNode : ℕ → ℕ → ℕ → Node
-  heldNode k first past =
-      record {
-        level = recordAt t k .level;
-        lab = record { lower = recordAt t k .lower; upper = recordAt t k .upper };
-        children = map edgeIn (take (past - first) (drop first es));
-      }
-
-  node-is : (k first past : ℕ) → k < count → first ≡ firstPlace ns k → past ≡ firstPlace ns (k + 1) → heldNode k first past ≡ nodeAt ns k
+  node-is : (k first past : ℕ) → k < count → first ≡ firstPlace ns k → past ≡ firstPlace ns (k + 1) → heldNode (recordAt t k) (edgesHeld es first past) ≡ nodeAt ns k
   node-is k first past h p q =
       let r = record-is k h in
       let c = children-are k first past h p q in
       λ i. record { level = r i .level; lab = record { lower = r i .lower; upper = r i .upper }; children = c i }
 
   pub lines-turn : (k first past : ℕ) → k < count → first ≡ firstPlace ns k → past ≡ firstPlace ns (k + 1)
-      → Parts (linesLeft ns k) (nodeLine k (heldNode k first past)) (linesLeft ns (k + 1))
+      → Parts (linesLeft ns k) (nodeLine k (recordAt t k .entering) (heldNode (recordAt t k) (edgesHeld es first past))) (linesLeft ns (k + 1))
   unfolding nodeLines
   lines-turn k first past h p q =
+      let r = record-is k h in
       let e = node-is k first past h p q in
       let d = drop-cons ns k noNode (omega (arith, l .counted)) in
       record {
         joined =
-            ap (nodeLines k) d
-            ∙ ap₂ (λ (x : Node) (m : ℕ). nodeLine k x ++ nodeLines m (drop m ns)) (sym e) (sym (add-one k));
+            ap (nodeLines ns k) d
+            ∙ ap₂ (λ (x : Node) (m : ℕ). nodeLine k (entering k ns) x ++ nodeLines ns m (drop m ns)) (sym e) (sym (add-one k))
+            ∙ ap (λ (c : ℕ). nodeLine k c (heldNode (recordAt t k) (edgesHeld es first past)) ++ linesLeft ns (k + 1)) (sym (ap (λ (x : Record). x .entering) r));
       }
 
   pub lines-none : (k : ℕ) → count ≤ k → linesLeft ns k ≡ []
   unfolding nodeLines
-  lines-none k h = ap (nodeLines k) (drop-of-length-le ns {i = k} (omega (arith, l .counted)))
+  lines-none k h = ap (nodeLines ns k) (drop-of-length-le ns {i = k} (omega (arith, l .counted)))

@@ -1,4 +1,4 @@
--- THE LINES that the printing program writes, as bytes, after document 01's section on it. Assumes nothing.
+-- THE LINES that the printing program writes, as bytes, after document 01's section on it and document 02. Assumes nothing.
 use mathlib.Core.List.{List, [], _∷_, _++_}
 use Prim.Native.Nat.{ℕ, suc}
 use Rattle.text.specs.Decimal.{decimal}
@@ -6,6 +6,7 @@ use Rattle.word.specs.Edge.{Edge, F, T, to}
 use Rattle.refusal.specs.Table.{numberOf, placeOf}
 use Rattle.refusal.specs.declared.Refusal.{Refusal}
 use Rattle.diagram.specs.Table.{Node}
+use Rattle.diagram.specs.Entering.{entering}
 use Rattle.filler.specs.declared.Counts.{Counts}
 
 abbrev pub newline : List ℕ
@@ -25,14 +26,14 @@ unfoldable pub children : List Edge → List ℕ
 children [] = []
 children (e ∷ es) = 32 ∷ child e ++ children es
 
--- A node's line: number, level, lower end, upper end, and the children for the values from 0 on.
-abbrev pub nodeLine : ℕ → Node → List ℕ
-nodeLine k x = decimal k ++ field (x .level) ++ field (x .lab .lower) ++ field (x .lab .upper) ++ children (x .children) ++ newline
+-- A node's line: number, level, lower end, upper end, the number of edges that enter it, and the children for the values from 0 on.
+abbrev pub nodeLine : ℕ → ℕ → Node → List ℕ
+nodeLine k count x = decimal k ++ field (x .level) ++ field (x .lab .lower) ++ field (x .lab .upper) ++ field count ++ children (x .children) ++ newline
 
--- The lines of nodes, the first of which has the number k.
-unfoldable pub nodeLines : ℕ → List Node → List ℕ
-nodeLines k [] = []
-nodeLines k (x ∷ xs) = nodeLine k x ++ nodeLines (suc k) xs
+-- The lines of a run of a table's nodes, the first of which has the number k.
+unfoldable pub nodeLines : List Node → ℕ → List Node → List ℕ
+nodeLines all k [] = []
+nodeLines all k (x ∷ xs) = nodeLine k (entering k all) x ++ nodeLines all (suc k) xs
 
 -- `nodes `, ` edges ` and ` words `, each with its count.
 abbrev pub nodesWord : List ℕ

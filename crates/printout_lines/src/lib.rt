@@ -2,6 +2,7 @@
 use filler::Counts;
 use refusal::Refusal;
 use word::Child;
+use word::ENTERING;
 use word::FIRST;
 use word::LOWER;
 use word::NodeNumber;
@@ -9,21 +10,21 @@ use word::RECORD;
 use word::UPPER;
 ghost use mathlib.Core.Path.{_≡_};
 ghost use mathlib.Core.List.{List, _++_, map};
-ghost use Prim.Native.Nat.{ℕ, _≤_};
-ghost use Rattle.word.specs.Record.{RecordsFit};
+ghost use Prim.Native.Nat.{ℕ, suc, _≤_};
+ghost use Rattle.word.specs.Record.{RecordsFit, recordAt};
 ghost use Rattle.diagram.specs.Table.{Node};
 ghost use Rattle.word.specs.Edge.{edgeIn};
 ghost use Rattle.diagram.specs.Flat.{firstPlace};
 ghost use Rattle.printout_lines.specs.Text.{field, child, children, nodeLine, nodeLines, countsLine, refusalLine};
 ghost use Rattle.text.specs.Cut.{Wrote};
-ghost use Rattle.printout_lines.specs.Lying.{Lying};
+ghost use Rattle.printout_lines.specs.Lying.{Lying, heldNode};
 
 // A space and a number; the place behind them.
-fn put_field(out: &mut [u8], start: usize, n: usize) -> usize
+fn put_field(out: &mut [u8], start: usize, n: u32) -> usize
     ensures { λ r. ⌜ Wrote (field n) start (now (out .entry)) (now (out .exit)) r ⌝ }
 {
     let at = text::put(out, start, b' ');
-    text::put_number(out, at, n)
+    text::put_number(out, at, n as usize)
 }
 
 // A child by its word in the edge list; the place behind it.
@@ -51,24 +52,19 @@ fn put_children(out: &mut [u8], start: usize, edges: &[u32]) -> usize
     at
 }
 
-// The line of a node; the place behind it.
-fn put_node(
-    out: &mut [u8],
-    start: usize,
-    number: NodeNumber,
-    level: u32,
-    lower: u32,
-    upper: u32,
-    edges: &[u32],
-) -> usize
-    ensures { λ r. ⌜ Wrote (nodeLine (number .0) (record { level = level; lab = record { lower = lower; upper = upper }; children = map edgeIn (now (edges .entry)) })) start (now (out .entry)) (now (out .exit)) r ⌝ }
+// The line of a node, of its record and its edges; the place behind it.
+fn put_node(out: &mut [u8], start: usize, number: NodeNumber, table: &[u32], edges: &[u32]) -> usize
+    requires { ⌜ RecordsFit (suc (number .0)) (now table) ⌝ }
+    ensures { λ r. ⌜ Wrote (nodeLine (number .0) (recordAt (now (table .entry)) (number .0) .entering) (heldNode (recordAt (now (table .entry)) (number .0)) (now (edges .entry)))) start (now (out .entry)) (now (out .exit)) r ⌝ }
 {
+    let at = number.0 * RECORD;
     let a = text::put_number(out, start, number.0);
-    let b = put_field(out, a, level as usize);
-    let c = put_field(out, b, lower as usize);
-    let d = put_field(out, c, upper as usize);
-    let e = put_children(out, d, edges);
-    text::put(out, e, b'\n')
+    let b = put_field(out, a, table[at]);
+    let c = put_field(out, b, table[at + LOWER]);
+    let d = put_field(out, c, table[at + UPPER]);
+    let e = put_field(out, d, table[at + ENTERING]);
+    let f = put_children(out, e, edges);
+    text::put(out, f, b'\n')
 }
 
 // The place of a node's first edge; for the number behind the last node, the number of edges.
@@ -94,24 +90,15 @@ fn put_nodes(
     start: usize,
 ) -> usize
     requires { ⌜ ((ns : List Node) × Lying ns (now table) count (now edges) total) ⌝ }
-    ensures { λ r. ⌜ ((ns : List Node) → Lying ns (now (table .entry)) count (now (edges .entry)) total → Wrote (nodeLines 0 ns) start (now (out .entry)) (now (out .exit)) r) ⌝ }
+    ensures { λ r. ⌜ ((ns : List Node) → Lying ns (now (table .entry)) count (now (edges .entry)) total → Wrote (nodeLines ns 0 ns) start (now (out .entry)) (now (out .exit)) r) ⌝ }
 {
     let mut at = start;
     let mut node = 0;
     'nodes: while node < count {
-        let b = node * RECORD;
         let next = node + 1;
         let first = first_edge(table, count, total, NodeNumber(node));
         let past = first_edge(table, count, total, NodeNumber(next));
-        at = put_node(
-            out,
-            at,
-            NodeNumber(node),
-            table[b],
-            table[b + LOWER],
-            table[b + UPPER],
-            &edges[first..past],
-        );
+        at = put_node(out, at, NodeNumber(node), table, &edges[first..past]);
         node = next;
     }
     at
@@ -144,7 +131,7 @@ pub fn put_refusal(x: Refusal, out: &mut [u8]) -> usize
 // The diagram's lines, at the start of the buffer; the place behind them.
 pub fn put_diagram(counts: Counts, table: &[u32], edges: &[u32], out: &mut [u8]) -> usize
     requires { ⌜ ((ns : List Node) × Lying ns (now table) (counts .nodes) (now edges) (counts .edges)) ⌝ }
-    ensures { λ r. ⌜ ((ns : List Node) → Lying ns (now (table .entry)) (counts .nodes) (now (edges .entry)) (counts .edges) → Wrote (countsLine counts ++ nodeLines 0 ns) 0 (now (out .entry)) (now (out .exit)) r) ⌝ }
+    ensures { λ r. ⌜ ((ns : List Node) → Lying ns (now (table .entry)) (counts .nodes) (now (edges .entry)) (counts .edges) → Wrote (countsLine counts ++ nodeLines ns 0 ns) 0 (now (out .entry)) (now (out .exit)) r) ⌝ }
 {
     let at = put_counts(counts, out);
     put_nodes(table, counts.nodes, edges, counts.edges, out, at)

@@ -12,12 +12,12 @@ use native.Mathlib.Omega.{arith}
 use lib.ListN.{length, getD}
 use lib.Dec.{leb, ltb}
 use borrow.Author.Tests.{ne-eqb, leb-true, ltb-true, ltb-false, lt-ltb, le-ltb}
-use Rattle.word.specs.Record.{Record, noRecord, used, RecordsFit, recordAt}
+use Rattle.word.specs.Record.{Record, noRecord, labelled, RecordsFit, recordAt}
 use Rattle.word.proofs.Tests.{both-true}
 use Rattle.finder.specs.declared.Found.the-variants.{At, Nothing}
 use Rattle.finder.specs.Find.{holds, liesBefore, bitOf, gapIn, findIn, key}
 use Rattle.search_ordered.specs.Order.{Before, Sorted, upperKey, lastBelow, lowLevels, Low, hits}
-use Rattle.word.proofs.Flat.{used-length, used-at}
+use Rattle.word.proofs.Labels.{labelled-length, labelled-at}
 use Rattle.search_ordered.proofs.Order.{sorted-at, proper-at}
 use Rattle.word.proofs.Among.{Standing}
 use Rattle.finder.proofs.Gap.{bit-most, gap-split, before-key}
@@ -191,18 +191,18 @@ gap-miss xs s wanted r p small is e = rw is (sym (find-none xs 0 (gapIn xs wante
 
 -- What a search compares of record m's words is what the record has.
 module _ (t : List ℕ) (count : ℕ) (room : RecordsFit count t) (m : ℕ) (h : m < count) where
-  pub words-low : Low (used t count) → recordAt t m .level < lowLevels
-  words-low low = rw (used-at t count room m h) at (low m (omega (arith, used-length t count room)))
+  pub words-low : Low (labelled t count) → recordAt t m .level < lowLevels
+  words-low low = rw (labelled-at t count room m h) at (low m (omega (arith, labelled-length t count room)))
 
-  pub words-upper : Sorted (used t count) → recordAt t m .upper < 4294967296
-  words-upper s = rw (used-at t count room m h) at (proper-at (used t count) s m (omega (arith, used-length t count room)) .1)
+  pub words-upper : Sorted (labelled t count) → recordAt t m .upper < 4294967296
+  words-upper s = rw (labelled-at t count room m h) at (proper-at (labelled t count) s m (omega (arith, labelled-length t count room)) .1)
 
   -- as a test, and as a bit
-  pub words-below : (level r : ℕ) (b v : Bool) → b ≡ v → b ≡ ltb (key (recordAt t m .level) (recordAt t m .upper)) (key level r) → ltb (upperKey (used t count) m) (key level r) ≡ v
-  words-below level r b v value e = rw (used-at t count room m h) (sym e ∙ value)
+  pub words-below : (level r : ℕ) (b v : Bool) → b ≡ v → b ≡ ltb (key (recordAt t m .level) (recordAt t m .upper)) (key level r) → ltb (upperKey (labelled t count) m) (key level r) ≡ v
+  words-below level r b v value e = rw (labelled-at t count room m h) (sym e ∙ value)
 
-  pub words-bit : (level r b : ℕ) → b ≡ bitOf (ltb (key (recordAt t m .level) (recordAt t m .upper)) (key level r)) → b ≡ bitOf (ltb (upperKey (used t count) m) (key level r))
-  words-bit level r b e = rw (used-at t count room m h) e
+  pub words-bit : (level r b : ℕ) → b ≡ bitOf (ltb (key (recordAt t m .level) (recordAt t m .upper)) (key level r)) → b ≡ bitOf (ltb (upperKey (labelled t count) m) (key level r))
+  words-bit level r b e = rw (labelled-at t count room m h) e
 
 -- What the test of one record says of the finder's reply.
 pub hits-reply : (xs : List Record) → Sorted xs → (level r p : ℕ) → hits xs level r p ≡ true → At (record { 0 = p }) ≡ findIn xs level r

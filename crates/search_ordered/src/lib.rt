@@ -13,7 +13,7 @@ ghost use mathlib.Core.Bool.{true};
 ghost use Prim.Native.Nat.{_+_, _≤_, _<_};
 ghost use lib.Dec.{ltb};
 ghost use Rattle.finder.specs.Find.{bitOf, gapIn, findIn};
-ghost use Rattle.word.specs.Record.{used, RecordsFit};
+ghost use Rattle.word.specs.Record.{labelled, RecordsFit};
 ghost use Rattle.search_ordered.specs.Order.{Sorted, lastBelow, lowLevels, Low, hits};
 
 // Levels are low below this number.
@@ -32,8 +32,8 @@ fn less_bit(a: u64, b: u64) -> usize
 
 // The gap by halves without branches, where the levels are low.
 fn gap_low(table: &[u32], count: usize, level: u32, r: Remainder) -> usize
-    requires { ⌜ RecordsFit count (now table) × Sorted (used (now table) count) × Low (used (now table) count) × (level < lowLevels) ⌝ }
-    ensures { λ p. ⌜ p ≡ gapIn (used (now (table .entry)) count) level (r .0) ⌝ }
+    requires { ⌜ RecordsFit count (now table) × Sorted (labelled (now table) count) × Low (labelled (now table) count) × (level < lowLevels) ⌝ }
+    ensures { λ p. ⌜ p ≡ gapIn (labelled (now (table .entry)) count) level (r .0) ⌝ }
 {
     let mut p = 0;
     let mut left = count;
@@ -48,8 +48,8 @@ fn gap_low(table: &[u32], count: usize, level: u32, r: Remainder) -> usize
 
 // The gap by halves, whatever the levels are.
 fn gap_any(table: &[u32], count: usize, level: u32, r: Remainder) -> usize
-    requires { ⌜ RecordsFit count (now table) × Sorted (used (now table) count) ⌝ }
-    ensures { λ p. ⌜ p ≡ gapIn (used (now (table .entry)) count) level (r .0) ⌝ }
+    requires { ⌜ RecordsFit count (now table) × Sorted (labelled (now table) count) ⌝ }
+    ensures { λ p. ⌜ p ≡ gapIn (labelled (now (table .entry)) count) level (r .0) ⌝ }
 {
     let mut lo = 0;
     let mut hi = count;
@@ -67,8 +67,8 @@ fn gap_any(table: &[u32], count: usize, level: u32, r: Remainder) -> usize
 
 // Whether the level and those of the first `count` records, which are in order, are low: the last tells.
 fn low(table: &[u32], count: usize, level: u32) -> bool
-    requires { ⌜ RecordsFit count (now table) × Sorted (used (now table) count) ⌝ }
-    ensures { λ b. ⌜ (b ≡ true → Low (used (now (table .entry)) count) × (level < lowLevels)) ⌝ }
+    requires { ⌜ RecordsFit count (now table) × Sorted (labelled (now table) count) ⌝ }
+    ensures { λ b. ⌜ (b ≡ true → Low (labelled (now (table .entry)) count) × (level < lowLevels)) ⌝ }
 {
     if LOW <= level {
         return false;
@@ -81,8 +81,8 @@ fn low(table: &[u32], count: usize, level: u32) -> bool
 
 // The gap among the first `count` records, which are in order: it is the place of the remainder.
 fn gap(table: &[u32], count: usize, level: u32, r: Remainder) -> usize
-    requires { ⌜ RecordsFit count (now table) × Sorted (used (now table) count) ⌝ }
-    ensures { λ p. ⌜ p ≡ gapIn (used (now (table .entry)) count) level (r .0) ⌝ }
+    requires { ⌜ RecordsFit count (now table) × Sorted (labelled (now table) count) ⌝ }
+    ensures { λ p. ⌜ p ≡ gapIn (labelled (now (table .entry)) count) level (r .0) ⌝ }
 {
     if low(table, count, level) {
         return gap_low(table, count, level, r);
@@ -93,7 +93,7 @@ fn gap(table: &[u32], count: usize, level: u32, r: Remainder) -> usize
 // Whether there are n records among the first `count`, and the last of them, where n is not 0, lies wholly before the remainder at the level.
 fn last_below(table: &[u32], count: usize, n: usize, level: u32, r: Remainder) -> bool
     requires { ⌜ RecordsFit count (now table) ⌝ }
-    ensures { λ b. ⌜ b ≡ lastBelow (used (now (table .entry)) count) level (r .0) n ⌝ }
+    ensures { λ b. ⌜ b ≡ lastBelow (labelled (now (table .entry)) count) level (r .0) n ⌝ }
 {
     if n == 0 {
         return true;
@@ -108,7 +108,7 @@ fn last_below(table: &[u32], count: usize, n: usize, level: u32, r: Remainder) -
 // Whether record p is one of the first `count` and holds the remainder.
 fn hit(table: &[u32], count: usize, p: NodeNumber, level: u32, r: Remainder) -> bool
     requires { ⌜ RecordsFit count (now table) ⌝ }
-    ensures { λ b. ⌜ b ≡ hits (used (now (table .entry)) count) level (r .0) (p .0) ⌝ }
+    ensures { λ b. ⌜ b ≡ hits (labelled (now (table .entry)) count) level (r .0) (p .0) ⌝ }
 {
     if p.0 < count {
         let b = p.0 * RECORD;
@@ -119,8 +119,8 @@ fn hit(table: &[u32], count: usize, p: NodeNumber, level: u32, r: Remainder) -> 
 
 // The finder's reply on the first `count` records, which are in order, from the gap, where a record that holds the remainder would stand.
 fn found_at(table: &[u32], count: usize, p: usize, level: u32, r: Remainder) -> Found
-    requires { ⌜ RecordsFit count (now table) × Sorted (used (now table) count) × (p ≡ gapIn (used (now table) count) level (r .0)) ⌝ }
-    ensures { λ f. ⌜ f ≡ findIn (used (now (table .entry)) count) level (r .0) ⌝ }
+    requires { ⌜ RecordsFit count (now table) × Sorted (labelled (now table) count) × (p ≡ gapIn (labelled (now table) count) level (r .0)) ⌝ }
+    ensures { λ f. ⌜ f ≡ findIn (labelled (now (table .entry)) count) level (r .0) ⌝ }
 {
     if hit(table, count, NodeNumber(p), level, r) {
         return Found::At(NodeNumber(p));
@@ -130,8 +130,8 @@ fn found_at(table: &[u32], count: usize, p: usize, level: u32, r: Remainder) -> 
 
 // Whether the gap among the first `count` records is n, as the records on both sides tell.
 fn gap_is(table: &[u32], count: usize, n: usize, level: u32, r: Remainder) -> bool
-    requires { ⌜ RecordsFit count (now table) × Sorted (used (now table) count) ⌝ }
-    ensures { λ b. ⌜ (b ≡ true → n ≡ gapIn (used (now (table .entry)) count) level (r .0)) ⌝ }
+    requires { ⌜ RecordsFit count (now table) × Sorted (labelled (now table) count) ⌝ }
+    ensures { λ b. ⌜ (b ≡ true → n ≡ gapIn (labelled (now (table .entry)) count) level (r .0)) ⌝ }
 {
     if !last_below(table, count, n, level, r) {
         return false;
@@ -145,8 +145,8 @@ fn gap_is(table: &[u32], count: usize, n: usize, level: u32, r: Remainder) -> bo
 
 // The gap, whatever the guess is: the guess itself, where the records on both sides tell that it is right.
 fn gap_near(table: &[u32], count: usize, guess: usize, level: u32, r: Remainder) -> usize
-    requires { ⌜ RecordsFit count (now table) × Sorted (used (now table) count) ⌝ }
-    ensures { λ p. ⌜ p ≡ gapIn (used (now (table .entry)) count) level (r .0) ⌝ }
+    requires { ⌜ RecordsFit count (now table) × Sorted (labelled (now table) count) ⌝ }
+    ensures { λ p. ⌜ p ≡ gapIn (labelled (now (table .entry)) count) level (r .0) ⌝ }
 {
     if gap_is(table, count, guess, level, r) {
         return guess;
@@ -156,8 +156,8 @@ fn gap_near(table: &[u32], count: usize, guess: usize, level: u32, r: Remainder)
 
 // The finder's reply on the first `count` records, which are in order.
 pub fn find_sorted(table: &[u32], count: usize, level: u32, r: Remainder) -> Found
-    requires { ⌜ RecordsFit count (now table) × Sorted (used (now table) count) ⌝ }
-    ensures { λ f. ⌜ f ≡ findIn (used (now (table .entry)) count) level (r .0) ⌝ }
+    requires { ⌜ RecordsFit count (now table) × Sorted (labelled (now table) count) ⌝ }
+    ensures { λ f. ⌜ f ≡ findIn (labelled (now (table .entry)) count) level (r .0) ⌝ }
 {
     let p = gap(table, count, level, r);
     found_at(table, count, p, level, r)
@@ -165,8 +165,8 @@ pub fn find_sorted(table: &[u32], count: usize, level: u32, r: Remainder) -> Fou
 
 // The same reply, whatever the guess is: a record that holds the remainder, and else by way of the gap.
 pub fn find_near(table: &[u32], count: usize, guess: NodeNumber, level: u32, r: Remainder) -> Found
-    requires { ⌜ RecordsFit count (now table) × Sorted (used (now table) count) ⌝ }
-    ensures { λ f. ⌜ f ≡ findIn (used (now (table .entry)) count) level (r .0) ⌝ }
+    requires { ⌜ RecordsFit count (now table) × Sorted (labelled (now table) count) ⌝ }
+    ensures { λ f. ⌜ f ≡ findIn (labelled (now (table .entry)) count) level (r .0) ⌝ }
 {
     if hit(table, count, guess, level, r) {
         return Found::At(guess);
@@ -232,8 +232,8 @@ fn walk(table: &[u32], count: usize, from: usize, level: u32, r: Remainder) -> u
 // The same reply, whatever the cursor is: it is where guesses are looked for, and they are tested. It moves to where the search ends, so that the next, for a
 // remainder that lies a little further on, is short. It is a bare number, as the borrow checker covers no reference to a struct.
 pub fn find_from(table: &[u32], count: usize, cursor: &mut usize, level: u32, r: Remainder) -> Found
-    requires { ⌜ RecordsFit count (now table) × Sorted (used (now table) count) ⌝ }
-    ensures { λ f. ⌜ f ≡ findIn (used (now (table .entry)) count) level (r .0) ⌝ }
+    requires { ⌜ RecordsFit count (now table) × Sorted (labelled (now table) count) ⌝ }
+    ensures { λ f. ⌜ f ≡ findIn (labelled (now (table .entry)) count) level (r .0) ⌝ }
 {
     let k = pass_few(table, count, *cursor, r);
     if hit(table, count, NodeNumber(k), level, r) {

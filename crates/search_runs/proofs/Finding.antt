@@ -6,11 +6,11 @@ use mathlib.Core.Bool.{Bool, true, false, cond}
 use Prim.Native.Nat.{ℕ, suc, _+_, _≤_}
 use native.Mathlib.Omega.{arith}
 use lib.ListN.{length}
-use Rattle.word.specs.Record.{Record, used, RecordsFit}
+use Rattle.word.specs.Record.{Record, labelled, RecordsFit}
 use Rattle.finder.specs.declared.Found.{Found}
 use Rattle.finder.specs.declared.Found.the-variants.{At, Nothing}
 use Rattle.finder.specs.Find.{holds, gapIn, findFrom, findIn}
-use Rattle.word.proofs.Flat.{used-length}
+use Rattle.word.proofs.Labels.{labelled-length}
 use Rattle.finder.proofs.Gap.{gap-append}
 use Rattle.search_runs.specs.Runs.{secondRun}
 use Rattle.search_runs.proofs.Views.{both-runs}
@@ -47,12 +47,12 @@ find-joined (x ∷ xs) ys k a b wanted r = go (holds x wanted r) (find-joined xs
     go false h = let z : suc k + length xs ≡ k + suc (length xs) = omega arith in rw z at h
 
 -- THE REPLY from those on the two runs.
-pub find-runs : (t : List ℕ) (m count : ℕ) → m ≤ count → RecordsFit count t → (wanted r : ℕ) (f g : Found) → f ≡ findIn (used t m) wanted r → g ≡ findIn (secondRun t m count) wanted r
-    → joined m f g ≡ findIn (used t count) wanted r
+pub find-runs : (t : List ℕ) (m count : ℕ) → m ≤ count → RecordsFit count t → (wanted r : ℕ) (f g : Found) → f ≡ findIn (labelled t m) wanted r → g ≡ findIn (secondRun t m count) wanted r
+    → joined m f g ≡ findIn (labelled t count) wanted r
 find-runs t m count mid room wanted r f g e h =
-    let xs : List Record = used t m in
+    let xs : List Record = labelled t m in
     let ys : List Record = secondRun t m count in
-    let n : 0 + length xs ≡ m = omega (arith, used-length t m (omega arith)) in
+    let n : 0 + length xs ≡ m = omega (arith, labelled-length t m (omega arith)) in
     rw (e, h) (sym (
     ap (λ (l : List Record). findIn l wanted r) (both-runs t m count mid)
     ∙ ap (λ (gap : ℕ). findFrom 0 gap (xs ++ ys) wanted r) (gap-append xs ys wanted r)

@@ -9,13 +9,14 @@ use native.Mathlib.Omega.{arith}
 use lib.ListN.{length, getD, take, drop, set, take-append-drop, length-set}
 use lib.Seq.{take-suc, append-snoc, getD-take, take-at, drop-at, length-take-le, take-take, take-set-le, set-split}
 use borrow.Author.Tests.{lt-ltb}
-use Rattle.word.specs.Record.{Record, records, noRecord, used, putRecord, recordWords, RecordsFit, recordAt}
+use Rattle.word.specs.Record.{Record, labels, noRecord, labelled, recordWords, RecordsFit, recordAt}
 use Rattle.finder.specs.Find.{key}
-use Rattle.word.proofs.Flat.{records-length, used-length, used-at}
+use Rattle.word.proofs.Labels.{labels-length, labelled-length, labelled-at}
 use Rattle.search_runs.specs.Runs.{secondRun, lowerKey, after, merge, Merged}
 use Rattle.search_runs.specs.Merging.{lastAbove}
 use Rattle.search_runs.proofs.Views.{merge-zero, merge-length}
-use Rattle.search_store.proofs.Stored.{put-length, put-beyond, put-records}
+use Rattle.search_store.specs.Stored.{Stored}
+use Rattle.search_store.proofs.Stored.{stored-beyond}
 
 -- What is left to merge, and behind it what is stored.
 pub record MergeState (xs ys rs₀ : List Record) (m p : ℕ) (rs : List Record) (i j : ℕ) : Type 0 where
@@ -129,7 +130,7 @@ module _ (rs : List Record) (y : Record) (k : ℕ) (e : k ≡ lowerKey y) where
 
 abbrev pub Inv : List ℕ → List ℕ → ℕ → ℕ → List ℕ → ℕ → ℕ → Type 0
 Inv t₀ s m count t i j =
-    MergeState (used t₀ m) (used s (count - m)) (records t₀) m (count - m) (records t) i j
+    MergeState (labelled t₀ m) (labelled s (count - m)) (labels t₀) m (count - m) (labels t) i j
     × (i ≤ m)
     × (j ≤ count - m)
     × (length t ≡ length t₀)
@@ -137,53 +138,51 @@ Inv t₀ s m count t i j =
 
 module _ (t₀ s : List ℕ) (m count : ℕ) (mid : m ≤ count) (room : RecordsFit count t₀) (few : count * recordWords ≤ m * recordWords + length s) where
   pub inv-start : Inv t₀ s m count t₀ m (count - m)
-  inv-start = (state-start (used s (count - m)) (records t₀) m (count - m), omega arith, omega arith, refl, refl)
+  inv-start = (state-start (labelled s (count - m)) (labels t₀) m (count - m), omega arith, omega arith, refl, refl)
 
-  pub inv-end : used s (count - m) ≡ secondRun t₀ m count → (t : List ℕ) (i j : ℕ) → j ≡ 0 → Inv t₀ s m count t i j → Merged t₀ m count t
+  pub inv-end : labelled s (count - m) ≡ secondRun t₀ m count → (t : List ℕ) (i j : ℕ) → j ≡ 0 → Inv t₀ s m count t i j → Merged t₀ m count t
   inv-end same t i j e inv =
       let p : ℕ = count - m in
       let n : m + p ≡ count = omega arith in
-      let long : length (merge (used t₀ m) (used s p) m p) ≡ count =
-      merge-length (used t₀ m) (used s p) m p (omega (arith, used-length t₀ m (omega arith))) (omega (arith, used-length s p (omega arith))) ∙ n in
-      let all = state-end (used t₀ m) (used s p) (records t₀) m p (records t) i j e (inv .0) in
+      let long : length (merge (labelled t₀ m) (labelled s p) m p) ≡ count =
+      merge-length (labelled t₀ m) (labelled s p) m p (omega (arith, labelled-length t₀ m (omega arith))) (omega (arith, labelled-length s p (omega arith))) ∙ n in
+      let all = state-end (labelled t₀ m) (labelled s p) (labels t₀) m p (labels t) i j e (inv .0) in
       record {
-        merged = ap (take count) all ∙ take-at (merge (used t₀ m) (used s p) m p) (drop (m + p) (records t₀)) count long ∙ ap (λ (ys : List Record). merge (used t₀ m) ys m p) same;
+        merged = ap (take count) all ∙ take-at (merge (labelled t₀ m) (labelled s p) m p) (drop (m + p) (labels t₀)) count long ∙ ap (λ (ys : List Record). merge (labelled t₀ m) ys m p) same;
         beyond = inv .4;
         long = inv .3;
       }
 
   module _ (t : List ℕ) (i j k : ℕ) (inv : Inv t₀ s m count t i j) (some : 0 < j) (e : k ≡ key (recordAt s (j - 1) .level) (recordAt s (j - 1) .lower)) (t′ : List ℕ) where
     abbrev last : Record
-    last = getD (used s (count - m)) (j - 1) noRecord
+    last = getD (labelled s (count - m)) (j - 1) noRecord
 
     last-key : k ≡ lowerKey last
-    last-key = rw (used-at s (count - m) (omega arith) (j - 1) (omega (arith, inv .2))) e
+    last-key = rw (labelled-at s (count - m) (omega arith) (j - 1) (omega (arith, inv .2))) e
 
     -- The turn with record x stored at number i + j, the last that is free.
     stored-inv : (i′ j′ : ℕ) (x : Record) → i′ ≤ i → j′ ≤ j → suc (i′ + j′) ≡ i + j
-        → MergeState (used t₀ m) (used s (count - m)) (records t₀) m (count - m) (set (records t) (i′ + j′) x) i′ j′
-        → t′ ≡ putRecord t (i′ + j′) x → Inv t₀ s m count t′ i′ j′
-    stored-inv i′ j′ x a b n st w =
-        let free : RecordsFit (suc (i′ + j′)) t = omega (arith, inv .1, inv .2, inv .3) in
-        rw w (
-          rw (put-records t (i′ + j′) x free) st,
-          omega (arith, inv .1),
-          omega (arith, inv .2),
-          put-length t (i′ + j′) x free ∙ inv .3,
-          put-beyond t (i′ + j′) x free (count * recordWords) (omega (arith, inv .1, inv .2)) ∙ inv .4,
-        )
+        → MergeState (labelled t₀ m) (labelled s (count - m)) (labels t₀) m (count - m) (set (labels t) (i′ + j′) x) i′ j′
+        → Stored t (i′ + j′) x t′ → Inv t₀ s m count t′ i′ j′
+    stored-inv i′ j′ x a b n st w = (
+      rw (w .there) st,
+      omega (arith, inv .1),
+      omega (arith, inv .2),
+      w .long ∙ inv .3,
+      stored-beyond t t′ (i′ + j′) count x w (omega (arith, inv .1, inv .2)) ∙ inv .4,
+    )
 
-    pub turn-main : lastAbove (records t) i k ≡ true → t′ ≡ putRecord t (i - 1 + j) (getD (records t) (i - 1) noRecord) → Inv t₀ s m count t′ (i - 1) j
+    pub turn-main : lastAbove (labels t) i k ≡ true → Stored t (i - 1 + j) (getD (labels t) (i - 1) noRecord) t′ → Inv t₀ s m count t′ (i - 1) j
     turn-main h w =
-        let i0 = above-some (records t) i k h in
-        stored-inv (i - 1) j (getD (records t) (i - 1) noRecord) (omega arith) (omega arith) (omega arith)
-        (step-main (used t₀ m) (used s (count - m)) (records t₀) m (count - m) (records t) i j i0 some (omega (arith, inv .1, inv .2, inv .3, records-length t))
-        (above-yes (records t) last k last-key i h) (inv .0)) w
+        let i0 = above-some (labels t) i k h in
+        stored-inv (i - 1) j (getD (labels t) (i - 1) noRecord) (omega arith) (omega arith) (omega arith)
+        (step-main (labelled t₀ m) (labelled s (count - m)) (labels t₀) m (count - m) (labels t) i j i0 some (omega (arith, inv .1, inv .2, inv .3, labels-length t))
+        (above-yes (labels t) last k last-key i h) (inv .0)) w
 
-    pub turn-pending : lastAbove (records t) i k ≡ false → t′ ≡ putRecord t (i + (j - 1)) (getD (records s) (j - 1) noRecord) → Inv t₀ s m count t′ i (j - 1)
+    pub turn-pending : lastAbove (labels t) i k ≡ false → Stored t (i + (j - 1)) (getD (labels s) (j - 1) noRecord) t′ → Inv t₀ s m count t′ i (j - 1)
     turn-pending h w =
-        let z : getD (used s (count - m)) (j - 1) noRecord ≡ getD (records s) (j - 1) noRecord = getD-take (count - m) (records s) (j - 1) noRecord (omega (arith, inv .2)) in
-        stored-inv i (j - 1) (getD (used s (count - m)) (j - 1) noRecord) (omega arith) (omega arith) (omega arith)
-        (step-pending (used t₀ m) (used s (count - m)) (records t₀) m (count - m) (records t) i j some (omega (arith, inv .1, inv .2, inv .3, records-length t))
-        (omega (arith, inv .2, used-length s (count - m) (omega arith))) (above-no (records t) last k last-key i h) (inv .0))
+        let z : getD (labelled s (count - m)) (j - 1) noRecord ≡ getD (labels s) (j - 1) noRecord = getD-take (count - m) (labels s) (j - 1) noRecord (omega (arith, inv .2)) in
+        stored-inv i (j - 1) (getD (labelled s (count - m)) (j - 1) noRecord) (omega arith) (omega arith) (omega arith)
+        (step-pending (labelled t₀ m) (labelled s (count - m)) (labels t₀) m (count - m) (labels t) i j some (omega (arith, inv .1, inv .2, inv .3, labels-length t))
+        (omega (arith, inv .2, labelled-length s (count - m) (omega arith))) (above-no (labels t) last k last-key i h) (inv .0))
         (rw z w)

@@ -9,10 +9,10 @@ use native.Mathlib.Omega.{arith}
 use lib.ListN.{length, getD, take, drop, length-append, length-drop}
 use lib.Seq.{take-suc, take-all, take-take, take-add, take-at, length-take-le}
 use borrow.Author.Tests.{ltb-true, ltb-false}
-use Rattle.word.specs.Record.{Record, records, noRecord, used, Among, recordWords, RecordsFit}
+use Rattle.word.specs.Record.{Record, labels, noRecord, labelled, Among, recordWords, RecordsFit}
 use Rattle.search_ordered.specs.Order.{Before, Proper, Sorted}
 use Rattle.search_store.specs.Copy.{copied}
-use Rattle.word.proofs.Flat.{records-length, records-take, records-drop, used-length}
+use Rattle.word.proofs.Labels.{labels-length, labels-take, labels-drop, labelled-length}
 use Rattle.search_runs.specs.Runs.{secondRun, runWords, lowerKey, after, merge, bothRuns, Apart, Runs, Merged, Settled}
 use Rattle.search_runs.proofs.Members.{among-left, among-right, among-cases, snoc-from, snoc-to, last-from, last-to, proper-in, sorted-snoc, sorted-unsnoc}
 
@@ -119,87 +119,87 @@ merge-sorted xs ys (suc i) (suc j) a b s r apart =
 -- ---- The runs of a table
 
 -- Both runs, one behind the other.
-pub both-runs : (t : List ℕ) (m count : ℕ) → m ≤ count → used t count ≡ used t m ++ secondRun t m count
+pub both-runs : (t : List ℕ) (m count : ℕ) → m ≤ count → labelled t count ≡ labelled t m ++ secondRun t m count
 both-runs t m count h =
     let e : m + (count - m) ≡ count = omega arith in
-    ap (λ (n : ℕ). take n (records t)) (sym e) ∙ take-add m (count - m) (records t)
+    ap (λ (n : ℕ). take n (labels t)) (sym e) ∙ take-add m (count - m) (labels t)
 
 pub run-length : (t : List ℕ) (m count : ℕ) → m ≤ count → RecordsFit count t → length (secondRun t m count) ≡ count - m
-run-length t m count h room = length-take-le (count - m) (drop m (records t)) (omega (arith, records-length t, length-drop m (records t)))
+run-length t m count h room = length-take-le (count - m) (drop m (labels t)) (omega (arith, labels-length t, length-drop m (labels t)))
 
 -- The words of the second run, where they lie and where they are copied to.
 module _ (t : List ℕ) (m count : ℕ) (mid : m ≤ count) where
-  run-records : records (runWords t m count) ≡ secondRun t m count
+  run-records : labels (runWords t m count) ≡ secondRun t m count
   run-records =
       let n : count * recordWords - m * recordWords ≡ (count - m) * recordWords = omega arith in
-      rw n (records-take (count - m) (drop (m * recordWords) t) ∙ ap (take (count - m)) (records-drop m t))
+      rw n (labels-take (count - m) (drop (m * recordWords) t) ∙ ap (take (count - m)) (labels-drop m t))
 
-  pub run-words : used (runWords t m count) (count - m) ≡ secondRun t m count
-  run-words = ap (take (count - m)) run-records ∙ take-take (count - m) (count - m) (drop m (records t)) (omega arith)
+  pub run-words : labelled (runWords t m count) (count - m) ≡ secondRun t m count
+  run-words = ap (take (count - m)) run-records ∙ take-take (count - m) (count - m) (drop m (labels t)) (omega arith)
 
-  pub run-copied : RecordsFit count t → (s w : List ℕ) → s ≡ copied (runWords t m count) w → used s (count - m) ≡ secondRun t m count
+  pub run-copied : RecordsFit count t → (s w : List ℕ) → s ≡ copied (runWords t m count) w → labelled s (count - m) ≡ secondRun t m count
   run-copied room s w e =
       let ws : List ℕ = runWords t m count in
       let n : length ws ≡ (count - m) * recordWords = length-take-le (count * recordWords - m * recordWords) (drop (m * recordWords) t) (omega (arith, length-drop (m * recordWords) t)) ∙ omega arith in
-      sym (records-take (count - m) s) ∙ ap records (ap (take ((count - m) * recordWords)) e ∙ take-at ws (drop (length ws) w) ((count - m) * recordWords) n) ∙ run-records
+      sym (labels-take (count - m) s) ∙ ap labels (ap (take ((count - m) * recordWords)) e ∙ take-at ws (drop (length ws) w) ((count - m) * recordWords) n) ∙ run-records
 
 module _ (t : List ℕ) (m count w : ℕ) (rs : Runs t m count w) where
-  main-length : length (used t m) ≡ m
-  main-length = used-length t m (omega (arith, rs .room, rs .mid))
+  main-length : length (labelled t m) ≡ m
+  main-length = labelled-length t m (omega (arith, rs .room, rs .mid))
 
   pending-length : length (secondRun t m count) ≡ count - m
   pending-length = run-length t m count (rs .mid) (rs .room)
 
-  main-all : take m (used t m) ≡ used t m
-  main-all = take-all m (used t m) (omega (arith, main-length))
+  main-all : take m (labelled t m) ≡ labelled t m
+  main-all = take-all m (labelled t m) (omega (arith, main-length))
 
   pending-all : take (count - m) (secondRun t m count) ≡ secondRun t m count
   pending-all = take-all (count - m) (secondRun t m count) (omega (arith, pending-length))
 
   pub both-length : length (bothRuns t m count) ≡ count
   both-length =
-      let e = merge-length (used t m) (secondRun t m count) m (count - m) (omega (arith, main-length)) (omega (arith, pending-length)) in
+      let e = merge-length (labelled t m) (secondRun t m count) m (count - m) (omega (arith, main-length)) (omega (arith, pending-length)) in
       omega (arith, rs .mid)
 
-  pub both-sorted : Apart (used t m) (secondRun t m count) → Sorted (bothRuns t m count)
-  both-sorted apart = merge-sorted (used t m) (secondRun t m count) m (count - m) (omega (arith, main-length)) (omega (arith, pending-length))
+  pub both-sorted : Apart (labelled t m) (secondRun t m count) → Sorted (bothRuns t m count)
+  both-sorted apart = merge-sorted (labelled t m) (secondRun t m count) m (count - m) (omega (arith, main-length)) (omega (arith, pending-length))
       (rw main-all (rs .main)) (rw pending-all (rs .pending)) (λ x y a b. apart x y (subst (Among x) main-all a) (subst (Among y) pending-all b))
 
-  pub both-from : (z : Record) → Among z (bothRuns t m count) → Among z (used t m) ⊎ Among z (secondRun t m count)
+  pub both-from : (z : Record) → Among z (bothRuns t m count) → Among z (labelled t m) ⊎ Among z (secondRun t m count)
   both-from z h = ⊎-elim (λ a. inl (subst (Among z) main-all a)) (λ b. inr (subst (Among z) pending-all b))
-      (merge-from (used t m) (secondRun t m count) m (count - m) (omega (arith, main-length)) (omega (arith, pending-length)) z h)
+      (merge-from (labelled t m) (secondRun t m count) m (count - m) (omega (arith, main-length)) (omega (arith, pending-length)) z h)
 
-  both-to : (z : Record) → Among z (used t m) ⊎ Among z (secondRun t m count) → Among z (bothRuns t m count)
-  both-to z h = merge-to (used t m) (secondRun t m count) m (count - m) (omega (arith, main-length)) (omega (arith, pending-length)) z
+  both-to : (z : Record) → Among z (labelled t m) ⊎ Among z (secondRun t m count) → Among z (bothRuns t m count)
+  both-to z h = merge-to (labelled t m) (secondRun t m count) m (count - m) (omega (arith, main-length)) (omega (arith, pending-length)) z
       (⊎-elim (λ a. inl (subst (Among z) (sym main-all) a)) (λ b. inr (subst (Among z) (sym pending-all) b)) h)
 
   -- THE VIEW has the records that lie in the table.
-  pub both-used : (z : Record) → Among z (used t count) → Among z (bothRuns t m count)
-  both-used z h = both-to z (among-cases (used t m) (secondRun t m count) z (subst (Among z) (both-runs t m count (rs .mid)) h))
+  pub both-used : (z : Record) → Among z (labelled t count) → Among z (bothRuns t m count)
+  both-used z h = both-to z (among-cases (labelled t m) (secondRun t m count) z (subst (Among z) (both-runs t m count (rs .mid)) h))
 
-  pub used-both : (z : Record) → Among z (bothRuns t m count) → Among z (used t count)
+  pub used-both : (z : Record) → Among z (bothRuns t m count) → Among z (labelled t count)
   used-both z h = subst (Among z) (sym (both-runs t m count (rs .mid)))
-      (⊎-elim (among-left (used t m) (secondRun t m count) z) (among-right (used t m) (secondRun t m count) z) (both-from z h))
+      (⊎-elim (among-left (labelled t m) (secondRun t m count) z) (among-right (labelled t m) (secondRun t m count) z) (both-from z h))
 
 -- No record is in the second run just after merging.
 run-none : (t : List ℕ) (n : ℕ) → secondRun t n n ≡ []
-run-none t n = let z : n - n ≡ 0 = omega arith in ap (λ (k : ℕ). take k (drop n (records t))) z
+run-none t n = let z : n - n ≡ 0 = omega arith in ap (λ (k : ℕ). take k (drop n (labels t))) z
 
-both-whole : (t : List ℕ) (n : ℕ) → bothRuns t n n ≡ used t n
+both-whole : (t : List ℕ) (n : ℕ) → bothRuns t n n ≡ labelled t n
 both-whole t n =
     let z : n - n ≡ 0 = omega arith in
-    ap (merge (used t n) (secondRun t n n) n) z ∙ merge-zero (used t n) (secondRun t n n) n ∙ take-take n n (records t) (omega arith)
+    ap (merge (labelled t n) (secondRun t n n) n) z ∙ merge-zero (labelled t n) (secondRun t n n) n ∙ take-take n n (labels t) (omega arith)
 
 sorted-none : Sorted []
 unfolding Sorted
 sorted-none = tt
 
 -- SETTLING leaves two runs in order and apart, with the same records.
-pub settled-both : (t : List ℕ) (m count w : ℕ) (t′ : List ℕ) (k : ℕ) → Runs t m count w → Apart (used t m) (secondRun t m count) → Settled t m count w t′ k
-    → Runs t′ k count w × Apart (used t′ k) (secondRun t′ k count) × (bothRuns t′ k count ≡ bothRuns t m count)
+pub settled-both : (t : List ℕ) (m count w : ℕ) (t′ : List ℕ) (k : ℕ) → Runs t m count w → Apart (labelled t m) (secondRun t m count) → Settled t m count w t′ k
+    → Runs t′ k count w × Apart (labelled t′ k) (secondRun t′ k count) × (bothRuns t′ k count ≡ bothRuns t m count)
 settled-both t m count w t′ k rs apart st = go (st .way)
   where
-    go : ((k ≡ m) × (t′ ≡ t)) ⊎ ((k ≡ count) × Merged t m count t′) → Runs t′ k count w × Apart (used t′ k) (secondRun t′ k count) × (bothRuns t′ k count ≡ bothRuns t m count)
+    go : ((k ≡ m) × (t′ ≡ t)) ⊎ ((k ≡ count) × Merged t m count t′) → Runs t′ k count w × Apart (labelled t′ k) (secondRun t′ k count) × (bothRuns t′ k count ≡ bothRuns t m count)
     go (inl (e, f)) = rw (e, f) (rs, apart, refl)
     go (inr (e, g)) = rw e (
       record {

@@ -7,7 +7,7 @@ use mathlib.Core.Bool.{Bool, cond}
 use Prim.Native.Nat.{ℕ, zero, suc, _+_, _-_, _*_, _≤_}
 use lib.Dec.{ltb}
 use lib.ListN.{length, take, drop, getD}
-use Rattle.word.specs.Record.{Record, records, noRecord, used, Among, recordWords, RecordsFit}
+use Rattle.word.specs.Record.{Record, labels, noRecord, labelled, Among, recordWords, RecordsFit, labelFrom}
 use Rattle.finder.specs.Find.{gapIn, key}
 use Rattle.search_ordered.specs.Order.{Before, Sorted}
 use Rattle.search_store.specs.Insert.{insertAt}
@@ -18,7 +18,7 @@ longest = 512
 
 -- The second run: the records from m up to count.
 abbrev pub secondRun : List ℕ → ℕ → ℕ → List Record
-secondRun t m count = take (count - m) (drop m (records t))
+secondRun t m count = take (count - m) (drop m (labels t))
 
 -- The words of the second run.
 abbrev pub runWords : List ℕ → ℕ → ℕ → List ℕ
@@ -41,7 +41,7 @@ merge xs ys (suc i) (suc j) =
 
 -- The records of both runs as one list.
 abbrev pub bothRuns : List ℕ → ℕ → ℕ → List Record
-bothRuns t m count = merge (used t m) (secondRun t m count) m (count - m)
+bothRuns t m count = merge (labelled t m) (secondRun t m count) m (count - m)
 
 -- Every record of the one lies before or after every record of the other.
 abbrev pub Apart : List Record → List Record → Type 0
@@ -52,25 +52,25 @@ pub record Runs (t : List ℕ) (m count w : ℕ) : Type 0 where
   pub room : RecordsFit count t
   pub mid : m ≤ count
   pub few : count * recordWords ≤ m * recordWords + w
-  pub main : Sorted (used t m)
+  pub main : Sorted (labelled t m)
   pub pending : Sorted (secondRun t m count)
 
 -- The first count records are both runs as one list; no word behind them has changed.
 pub record Merged (t : List ℕ) (m count : ℕ) (t′ : List ℕ) : Type 0 where
-  pub merged : used t′ count ≡ bothRuns t m count
+  pub merged : labelled t′ count ≡ bothRuns t m count
   pub beyond : drop (count * recordWords) t′ ≡ drop (count * recordWords) t
   pub long : length t′ ≡ length t
 
 -- The table is as it was, or its runs are merged; the first run has k records, and in the second there is room for one more within w words.
 pub record Settled (t : List ℕ) (m count w : ℕ) (t′ : List ℕ) (k : ℕ) : Type 0 where
   pub within : k ≤ count
-  pub free : count * recordWords + recordWords ≤ k * recordWords + w
+  pub free : suc count * recordWords ≤ k * recordWords + w
   pub long : length t′ ≡ length t
   pub way : ((k ≡ m) × (t′ ≡ t)) ⊎ ((k ≡ count) × Merged t m count t′)
 
--- A record was put into the second run, at the gap of the remainder r; no word before the run, or behind the run as it is then, has changed.
+-- A label was put into the second run, at the gap of the remainder r; no label before the run, and no word behind the run as it is then, has changed.
 pub record PutIn (t : List ℕ) (m count level r lower upper : ℕ) (t′ : List ℕ) : Type 0 where
-  pub main : used t′ m ≡ used t m
-  pub pending : secondRun t′ m (count + 1) ≡ insertAt (gapIn (secondRun t m count) level r) (record { level = level; lower = lower; upper = upper; first = 0 }) (secondRun t m count)
-  pub beyond : drop (count * recordWords + recordWords) t′ ≡ drop (count * recordWords + recordWords) t
+  pub main : labelled t′ m ≡ labelled t m
+  pub pending : secondRun t′ m (count + 1) ≡ insertAt (gapIn (secondRun t m count) level r) (labelFrom level lower upper) (secondRun t m count)
+  pub beyond : drop (suc count * recordWords) t′ ≡ drop (suc count * recordWords) t
   pub long : length t′ ≡ length t

@@ -11,7 +11,7 @@ use word::Remainder;
 ghost use mathlib.Core.Path.{_≡_};
 ghost use Prim.Native.Nat.{suc, _+_, _*_, _/_, _≤_, min};
 ghost use lib.ListN.{length};
-ghost use Rattle.word.specs.Record.{used, recordWords, RecordsFit};
+ghost use Rattle.word.specs.Record.{labelled, recordWords, RecordsFit};
 ghost use Rattle.search_ordered.specs.Order.{Sorted};
 ghost use Rattle.finder.specs.Find.{Missing, findIn};
 ghost use Rattle.search_store.specs.Copy.{copied};
@@ -35,8 +35,8 @@ pub fn find(
     level: u32,
     r: Remainder,
 ) -> Found
-    requires { ⌜ (main ≤ count) × RecordsFit count (now table) × Sorted (used (now table) main) × Sorted (secondRun (now table) main count) ⌝ }
-    ensures { λ f. ⌜ f ≡ findIn (used (now (table .entry)) count) level (r .0) ⌝ }
+    requires { ⌜ (main ≤ count) × RecordsFit count (now table) × Sorted (labelled (now table) main) × Sorted (secondRun (now table) main count) ⌝ }
+    ensures { λ f. ⌜ f ≡ findIn (labelled (now (table .entry)) count) level (r .0) ⌝ }
 {
     let g = search_hints::guess(table, work, main, level, r);
     match search_ordered::find_near(table, main, g, level, r) {
@@ -97,7 +97,7 @@ pub fn settle(table: &mut [u32], work: &mut [u32], main: usize, count: usize) ->
     count
 }
 
-// Puts a record with the first place 0 into the second run, none of whose records holds the remainder, at the gap that the finder replies; `near` is where it
+// Puts a label into the second run, none of whose records holds the remainder, at the gap that the finder replies; `near` is where it
 // looks first. That none holds it is asked for, so the other reply cannot come.
 pub fn put(
     table: &mut [u32],

@@ -1,21 +1,21 @@
 // Merging two runs from the end on: of the two last records that are left, the later is stored behind all that are left.
 use finder::key_of;
-use search_store::copy_record;
-use search_store::move_record;
+use search_store::copy_label;
+use search_store::move_label;
 use word::LOWER;
 use word::NodeNumber;
 use word::RECORD;
 ghost use mathlib.Core.Path.{_≡_};
 ghost use Prim.Native.Nat.{_+_, _-_, _*_, _≤_};
 ghost use lib.ListN.{length};
-ghost use Rattle.word.specs.Record.{records, used, recordWords, RecordsFit};
+ghost use Rattle.word.specs.Record.{labels, labelled, recordWords, RecordsFit};
 ghost use Rattle.search_runs.specs.Runs.{secondRun, Merged};
 ghost use Rattle.search_runs.specs.Merging.{lastAbove};
 
 // Whether there is a last one of the first i records, and its key is above k.
 fn last_above(table: &[u32], i: usize, k: u64) -> bool
     requires { ⌜ RecordsFit i (now table) ⌝ }
-    ensures { λ b. ⌜ b ≡ lastAbove (records (now (table .entry))) i k ⌝ }
+    ensures { λ b. ⌜ b ≡ lastAbove (labels (now (table .entry))) i k ⌝ }
 {
     if i == 0 {
         return false;
@@ -26,7 +26,7 @@ fn last_above(table: &[u32], i: usize, k: u64) -> bool
 
 // Merges the two runs, where s has the records of the second.
 pub fn merge_back(table: &mut [u32], s: &[u32], main: usize, count: usize)
-    requires { ⌜ (main ≤ count) × RecordsFit count (now table) × (count * recordWords ≤ main * recordWords + length (now s)) × (used (now s) (count - main) ≡ secondRun (now table) main count) ⌝ }
+    requires { ⌜ (main ≤ count) × RecordsFit count (now table) × (count * recordWords ≤ main * recordWords + length (now s)) × (labelled (now s) (count - main) ≡ secondRun (now table) main count) ⌝ }
     ensures { λ _. ⌜ Merged (now (table .entry)) main count (now (table .exit)) ⌝ }
 {
     let mut i = main;
@@ -37,10 +37,10 @@ pub fn merge_back(table: &mut [u32], s: &[u32], main: usize, count: usize)
         while last_above(table, i, k) {
             i -= 1;
             let to = i + j;
-            move_record(table, NodeNumber(i), NodeNumber(to));
+            move_label(table, NodeNumber(i), NodeNumber(to));
         }
         j -= 1;
         let to = i + j;
-        copy_record(table, s, NodeNumber(j), NodeNumber(to));
+        copy_label(table, s, NodeNumber(j), NodeNumber(to));
     }
 }

@@ -1,65 +1,40 @@
--- THE MOVES OF AN INSERTION, on words and then on records. The words are cut at the record's place and past the last record. Assumes nothing.
+-- THE MOVES OF AN INSERTION: the labels from a number on go up by one, and the new one is stored into the room. Assumes nothing.
 use mathlib.Core.Path.{_≡_, refl, sym, ap, _∙_}
-use mathlib.Core.List.{List, [], _∷_, _++_, append-assoc}
+use mathlib.Core.List.{List, [], _∷_, _++_}
 use Prim.Native.Nat.{ℕ, zero, suc, _+_, _-_, _*_, _≤_, _<_}
 use native.Mathlib.Nat.{not-suc-le-zero, le-of-suc-le-suc, suc-sub-suc}
 use native.Mathlib.Numerals.{add-one}
 use native.Mathlib.Omega.{arith}
-use lib.ListN.{length, getD, take, drop, set, List·getD-append, take-append-drop, length-append, length-drop}
-use lib.Seq.{drop-cons, take-suc, append-snoc, set-at, getD-take, take-at, drop-at, length-take-le, take-take, take-append-le}
-use Rattle.word.specs.Record.{Record, records, laid, used, putRecord, recordWords, RecordsFit}
+use lib.ListN.{length, getD, take, drop, set, List·getD-append, take-append-drop}
+use lib.Seq.{drop-cons, take-suc, append-snoc, set-at, getD-take, take-at, length-take-le, set-split, take-append-le, drop-at, take-take}
+use Rattle.word.specs.Record.{Record, recordWords, RecordsFit, noRecord, labels, labelled}
+use Rattle.word.proofs.Labels.{labels-length}
+use Rattle.search_store.specs.Stored.{Stored, raised, Raised}
 use Rattle.search_store.specs.Insert.{insertAt}
-use Rattle.word.proofs.Flat.{records-length, records-take, records-drop, records-append, records-laid}
+use Rattle.search_store.proofs.Stored.{stored-beyond}
 
--- The words from b up to n moved up by a record's words.
-abbrev pub raised : List ℕ → ℕ → ℕ → List ℕ
-raised t b n = take (b + recordWords) t ++ (take (n - b) (drop b t) ++ drop (n + recordWords) t)
+raised-none : (xs : List Record) (n : ℕ) → xs ≡ raised xs n n
+raised-none xs n = let z : n - n ≡ 0 = omega arith in rw z (sym (take-append-drop (suc n) xs))
 
-pub raised-none : (t : List ℕ) (n : ℕ) → t ≡ raised t n n
-raised-none t n = let z : n - n ≡ 0 = omega arith in rw z (sym (take-append-drop (n + recordWords) t))
-
-raised-suc : (t : List ℕ) (j n : ℕ) → j < n → n + recordWords ≤ length t
-    → set (raised t (suc j) n) (j + recordWords) (getD (raised t (suc j) n) j 0) ≡ raised t j n
-raised-suc t j n h room =
-    let w = getD t j 0 in
-    let old = getD t (j + recordWords) 0 in
-    let rest : List ℕ = take (n - suc j) (drop (suc j) t) ++ drop (n + recordWords) t in
-    let s : suc j + recordWords ≡ suc (j + recordWords) = omega arith in
-    let split : take (suc j + recordWords) t ≡ take (j + recordWords) t ++ (old ∷ []) = rw s (take-suc t (j + recordWords) 0 (omega arith)) in
-    let long : length (take (j + recordWords) t) ≡ j + recordWords = length-take-le (j + recordWords) t (omega arith) in
-    let long2 : length (take (suc j + recordWords) t) ≡ suc j + recordWords = length-take-le (suc j + recordWords) t (omega arith) in
-    let e0 : getD (take (suc j + recordWords) t ++ rest) j 0 ≡ w = List·getD-append (take (suc j + recordWords) t) rest 0 j (omega arith) ∙ getD-take (suc j + recordWords) t j 0 (omega arith) in
-    let e1 : take (suc j + recordWords) t ++ rest ≡ take (j + recordWords) t ++ (old ∷ rest) = ap (λ (l : List ℕ). l ++ rest) split ∙ append-snoc (take (j + recordWords) t) old rest in
-    let e2 : set (take (j + recordWords) t ++ (old ∷ rest)) (j + recordWords) w ≡ take (j + recordWords) t ++ (w ∷ rest) = set-at (take (j + recordWords) t) old rest w (j + recordWords) long in
+raised-suc : (xs : List Record) (j n : ℕ) → j < n → suc n ≤ length xs
+    → set (raised xs (suc j) n) (suc j) (getD (raised xs (suc j) n) j noRecord) ≡ raised xs j n
+raised-suc xs j n h room =
+    let w = getD xs j noRecord in
+    let old = getD xs (suc j) noRecord in
+    let rest : List Record = take (n - suc j) (drop (suc j) xs) ++ drop (suc n) xs in
+    let split : take (suc (suc j)) xs ≡ take (suc j) xs ++ (old ∷ []) = take-suc xs (suc j) noRecord (omega arith) in
+    let long : length (take (suc j) xs) ≡ suc j = length-take-le (suc j) xs (omega arith) in
+    let long2 : length (take (suc (suc j)) xs) ≡ suc (suc j) = length-take-le (suc (suc j)) xs (omega arith) in
+    let e0 : getD (take (suc (suc j)) xs ++ rest) j noRecord ≡ w =
+    List·getD-append (take (suc (suc j)) xs) rest noRecord j (omega arith) ∙ getD-take (suc (suc j)) xs j noRecord (omega arith) in
+    let e1 : take (suc (suc j)) xs ++ rest ≡ take (suc j) xs ++ (old ∷ rest) = ap (λ (l : List Record). l ++ rest) split ∙ append-snoc (take (suc j) xs) old rest in
+    let e2 : set (take (suc j) xs ++ (old ∷ rest)) (suc j) w ≡ take (suc j) xs ++ (w ∷ rest) = set-at (take (suc j) xs) old rest w (suc j) long in
     let s2 : n - j ≡ suc (n - suc j) = omega arith in
-    let e3 : take (n - j) (drop j t) ≡ w ∷ take (n - suc j) (drop (suc j) t) = rw (s2, drop-cons t j 0 (omega arith)) refl in
-    ap (λ (x : ℕ). set (take (suc j + recordWords) t ++ rest) (j + recordWords) x) e0
-    ∙ ap (λ (l : List ℕ). set l (j + recordWords) w) e1
+    let e3 : take (n - j) (drop j xs) ≡ w ∷ take (n - suc j) (drop (suc j) xs) = rw (s2, drop-cons xs j noRecord (omega arith)) refl in
+    ap (λ (x : Record). set (take (suc (suc j)) xs ++ rest) (suc j) x) e0
+    ∙ ap (λ (l : List Record). set l (suc j) w) e1
     ∙ e2
-    ∙ ap (λ (l : List ℕ). take (j + recordWords) t ++ (l ++ drop (n + recordWords) t)) (sym e3)
-
--- A turn of the loop moves one word more.
-pub raised-step : (t : List ℕ) (i n : ℕ) → 0 < i → i ≤ n → n + recordWords ≤ length t
-    → set (raised t i n) (i - 1 + recordWords) (getD (raised t i n) (i - 1) 0) ≡ raised t (i - 1) n
-raised-step t zero n p h room = absurd (not-suc-le-zero p)
-raised-step t (suc j) n p h room = let e : suc j - 1 ≡ j = omega arith in rw e (raised-suc t j n h room)
-
--- The words before, the record's, those of the records after it, and what lies past them.
-abbrev inserted : List ℕ → ℕ → ℕ → Record → List ℕ
-inserted t count p x = take (p * recordWords) t ++ (laid x ++ (take (count * recordWords - p * recordWords) (drop (p * recordWords) t) ++ drop (count * recordWords + recordWords) t))
-
--- A record stored into the room.
-stores : (t g : List ℕ) (count p : ℕ) (x : Record) → p ≤ count → RecordsFit (suc count) t → g ≡ raised t (p * recordWords) (count * recordWords) → putRecord g p x ≡ inserted t count p x
-stores t g count p x h room eq =
-    let i : ℕ = p * recordWords in
-    let n : ℕ = count * recordWords in
-    let rest : List ℕ = take (n - i) (drop i t) ++ drop (n + recordWords) t in
-    let long : length (take (i + recordWords) t) ≡ i + recordWords = length-take-le (i + recordWords) t (omega arith) in
-    let e2 : take i (raised t i n) ≡ take i t = take-append-le i (take (i + recordWords) t) rest (omega arith) ∙ take-take i (i + recordWords) t (omega arith) in
-    let e3 : drop (i + recordWords) (raised t i n) ≡ rest = drop-at (take (i + recordWords) t) rest (i + recordWords) long in
-    rw eq
-    (ap (λ (q : List ℕ). q ++ (laid x ++ drop (i + recordWords) (raised t i n))) e2
-    ∙ ap (λ (q : List ℕ). take i t ++ (laid x ++ q)) e3)
+    ∙ ap (λ (l : List Record). take (suc j) xs ++ (l ++ drop (suc n) xs)) (sym e3)
 
 front : (c : ℕ) (rs ds : List Record) → c ≤ length rs → take c (take (c - 0) rs ++ ds) ≡ take c rs
 front c rs ds h =
@@ -76,41 +51,42 @@ put-in (suc p) (suc c) [] ds x h k = absurd (not-suc-le-zero k)
 put-in (suc p) (suc c) (y ∷ rs) ds x h k =
     rw suc-sub-suc (ap (λ (r : List Record). y ∷ r) (put-in p c rs ds x (le-of-suc-le-suc h) (le-of-suc-le-suc k)))
 
-module _ (t : List ℕ) (count p : ℕ) (x : Record) (h : p ≤ count) (room : RecordsFit (suc count) t) where
-  inserted-records : used (inserted t count p x) (count + 1) ≡ insertAt p x (used t count)
-  inserted-records =
-      let m : count * recordWords - p * recordWords ≡ (count - p) * recordWords = omega arith in
-      let n : count * recordWords + recordWords ≡ suc count * recordWords = omega arith in
-      let l1 : length (take (p * recordWords) t) ≡ p * recordWords = length-take-le (p * recordWords) t (omega arith) in
-      let l2 : length (drop (p * recordWords) t) ≡ length t - p * recordWords = length-drop (p * recordWords) t in
-      let moved : List ℕ = take ((count - p) * recordWords) (drop (p * recordWords) t) in
-      let l3 : length moved ≡ (count - p) * recordWords = length-take-le ((count - p) * recordWords) (drop (p * recordWords) t) (omega arith) in
-      let past : List ℕ = drop (suc count * recordWords) t in
-      let e1 : records (take (p * recordWords) t ++ (laid x ++ (moved ++ past))) ≡ records (take (p * recordWords) t) ++ records (laid x ++ (moved ++ past)) = records-append p _ _ l1 in
-      let e2 : records (moved ++ past) ≡ records moved ++ records past = records-append (count - p) _ _ l3 in
-      let e3 : records moved ≡ take (count - p) (drop p (records t)) = records-take (count - p) (drop (p * recordWords) t) ∙ ap (λ (r : List Record). take (count - p) r) (records-drop p t) in
-      let e4 : records (take (p * recordWords) t ++ (laid x ++ (moved ++ past))) ≡ take p (records t) ++ (x ∷ (take (count - p) (drop p (records t)) ++ records past)) =
-      e1
-      ∙ ap (λ (r : List Record). r ++ records (laid x ++ (moved ++ past))) (records-take p t)
-      ∙ ap (λ (r : List Record). take p (records t) ++ r) (records-laid x (moved ++ past) ∙ ap (λ (r : List Record). x ∷ r) (e2 ∙ ap (λ (r : List Record). r ++ records past) e3)) in
-      rw (m, n, add-one)
-      (ap (λ (r : List Record). take (suc count) r) e4 ∙ put-in p count (records t) (records past) x h (omega (arith, records-length t)))
+pub raise-start : (t : List ℕ) (n : ℕ) → Raised t n n t
+raise-start t n = record { there = raised-none (labels t) n; beyond = refl; long = refl }
 
-  inserted-past : drop (count * recordWords + recordWords) (inserted t count p x) ≡ drop (count * recordWords + recordWords) t
-  inserted-past =
-      let before : List ℕ = take (p * recordWords) t in
-      let moved : List ℕ = take (count * recordWords - p * recordWords) (drop (p * recordWords) t) in
-      let past : List ℕ = drop (count * recordWords + recordWords) t in
-      let l1 : length before ≡ p * recordWords = length-take-le (p * recordWords) t (omega arith) in
-      let l2 : length (drop (p * recordWords) t) ≡ length t - p * recordWords = length-drop (p * recordWords) t in
-      let l3 : length moved ≡ count * recordWords - p * recordWords = length-take-le (count * recordWords - p * recordWords) (drop (p * recordWords) t) (omega arith) in
-      let l4 = length-append before (laid x ++ moved) in
-      ap (λ (l : List ℕ). drop (count * recordWords + recordWords) l) (sym (append-assoc before (laid x ++ moved) past))
-      ∙ drop-at (before ++ (laid x ++ moved)) past (count * recordWords + recordWords) (omega arith)
+-- A turn of the loop moves one label more.
+pub raise-turn : (t u v : List ℕ) (i n : ℕ) → 0 < i → i ≤ n → RecordsFit (suc n) t → Raised t i n u → Stored u i (getD (labels u) (i - 1) noRecord) v → Raised t (i - 1) n v
+raise-turn t u v zero n p h room r s = absurd (not-suc-le-zero p)
+raise-turn t u v (suc j) n p h room r s =
+    let e : suc j - 1 ≡ j = omega arith in
+    let k : Stored u (suc j) (getD (labels u) j noRecord) v = rw e at s in
+    rw e (record {
+      there =
+          k .there
+          ∙ ap (λ (l : List Record). set l (suc j) (getD l j noRecord)) (r .there)
+          ∙ raised-suc (labels t) j n h (omega (arith, labels-length t));
+      beyond = stored-beyond u v (suc j) (suc n) (getD (labels u) j noRecord) k (omega arith) ∙ r .beyond;
+      long = k .long ∙ r .long;
+    })
 
-  -- WHAT THE INSERTION LEAVES: the records with the new one at number p, and the words past them as they were.
-  pub insert-leaves : (g s : List ℕ) → g ≡ raised t (p * recordWords) (count * recordWords) → s ≡ putRecord g p x
-      → (used s (count + 1) ≡ insertAt p x (used t count)) × (drop (count * recordWords + recordWords) s ≡ drop (count * recordWords + recordWords) t)
-  insert-leaves g s e q =
-      let r : s ≡ inserted t count p x = q ∙ stores t g count p x h room e in
-      (ap (λ (l : List ℕ). used l (count + 1)) r ∙ inserted-records, ap (λ (l : List ℕ). drop (count * recordWords + recordWords) l) r ∙ inserted-past)
+module _ (t u v : List ℕ) (count p : ℕ) (x : Record) (h : p ≤ count) (room : RecordsFit (suc count) t) (r : Raised t p count u) (s : Stored u p x v) where
+  -- the labels before, the new one, those after it, and what lies past them
+  cut : labels v ≡ take p (labels t) ++ (x ∷ (take (count - p) (drop p (labels t)) ++ drop (suc count) (labels t)))
+  cut =
+      let xs = labels t in
+      let rest : List Record = take (count - p) (drop p xs) ++ drop (suc count) xs in
+      let n = labels-length t in
+      let m = labels-length u in
+      let front : length (take (suc p) xs) ≡ suc p = length-take-le (suc p) xs (omega arith) in
+      s .there
+      ∙ set-split (labels u) p x (omega (arith, r .long))
+      ∙ ap (λ (l : List Record). take p l ++ (x ∷ drop (suc p) l)) (r .there)
+      ∙ ap (λ (l : List Record). l ++ (x ∷ drop (suc p) (raised xs p count))) (take-append-le p (take (suc p) xs) rest (omega arith) ∙ take-take p (suc p) xs (omega arith))
+      ∙ ap (λ (l : List Record). take p xs ++ (x ∷ l)) (drop-at (take (suc p) xs) rest (suc p) front)
+
+  -- WHAT THE INSERTION LEAVES: the labels with the new one at number p, and the words past their records as they were.
+  pub insert-leaves : (labelled v (count + 1) ≡ insertAt p x (labelled t count)) × (drop (suc count * recordWords) v ≡ drop (suc count * recordWords) t)
+  insert-leaves = (
+    rw add-one (ap (take (suc count)) cut ∙ put-in p count (labels t) (drop (suc count) (labels t)) x h (omega (arith, labels-length t))),
+    stored-beyond u v p (suc count) x s (omega arith) ∙ r .beyond,
+  )

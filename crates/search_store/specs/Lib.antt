@@ -1,2 +1,3 @@
 pub mod Copy
+pub mod Stored
 pub mod Insert

@@ -8,6 +8,7 @@ use lib.ListN.{replicate}
 use Rattle.word.specs.Record.{recordWords, flat}
 use Rattle.diagram.specs.Label.{overlap, labelOf}
 use Rattle.diagram.specs.Table.{insert, place, addKey, addRow, keysBelow, rootKeys, edgeTo, row, nodeOfKey, nodesFrom, table, root}
+use Rattle.diagram.specs.Entering.{times, entering}
 use Rattle.diagram.specs.Flat.{recordsFrom, tableWords, edgeWords, edgeCount}
 use Rattle.diagram.specs.Constraint.{Constraint}
 use Rattle.encoding.specs.Pattern.{orderWords, nodeWords}
@@ -60,7 +61,7 @@ abbrev pub clausesP : List ℕ
 clausesP = 0x80000002 ∷ 0xC0000001 ∷ 0xA0000003 ∷ 0xC0000001 ∷ 0x80000004 ∷ 0xC0000001 ∷ 0xA0000004 ∷ 0x80000002 ∷ 0xC0000002 ∷ 0xA0000004 ∷ 0x80000001 ∷ 0x80000003 ∷ 0xC0000003 ∷ []
 
 abbrev pub tableR : List ℕ
-tableR = 1 ∷ 12 ∷ 13 ∷ 0 ∷ 2 ∷ 5 ∷ 9 ∷ 3 ∷ 2 ∷ 10 ∷ 14 ∷ 7 ∷ []
+tableR = 1 ∷ 12 ∷ 13 ∷ 0 ∷ 0 ∷ 2 ∷ 5 ∷ 9 ∷ 3 ∷ 1 ∷ 2 ∷ 10 ∷ 14 ∷ 7 ∷ 2 ∷ []
 
 abbrev pub edgesR : List ℕ
 edgesR = 2 ∷ 2 ∷ 1 ∷ 0xC0000001 ∷ 0xC0000001 ∷ 0xC0000000 ∷ 0xC0000000 ∷ 0xC0000001 ∷ 0xC0000001 ∷ 0xC0000001 ∷ 0xC0000000 ∷ []
@@ -73,7 +74,7 @@ pub exercises : List Exercise
 exercises =
     -- P: the label, the children and the clause list.
     acceptedRow (0x00000000 ∷ 0x40010001 ∷ []) (values 0 0 1 2 13)
-    (1 ∷ 0 ∷ 0 ∷ 0 ∷ [])
+    (1 ∷ 0 ∷ 0 ∷ 0 ∷ 0 ∷ [])
     (0xC0000001 ∷ 0xC0000000 ∷ [])
     clausesP
     ∷
@@ -81,7 +82,7 @@ exercises =
     acceptedRow (0x00000001 ∷ 0x40010001 ∷ []) (values 0 0 0 0 6) [] []
     (0x80000002 ∷ 0xC0000001 ∷ 0xA0000003 ∷ 0xC0000001 ∷ 0x80000002 ∷ 0xC0000001 ∷ [])
     ∷
-    -- R: all but the clause words.
+    -- R: all but the clause words, with request Six's numbers of entering edges.
     acceptedRow (0x0000000C ∷ 0x40020002 ∷ 0x40030005 ∷ []) (values 0 0 3 11 56) tableR edgesR clausesR
     ∷
     -- S: that all three lists are R's.
@@ -89,19 +90,19 @@ exercises =
     ∷
     -- U: the root's label and children.
     acceptedRow (0x0000000B ∷ 0x40020002 ∷ 0x40030005 ∷ []) (values 0 0 3 11 56)
-    (1 ∷ 10 ∷ 11 ∷ 0 ∷ 2 ∷ 5 ∷ 9 ∷ 3 ∷ 2 ∷ 10 ∷ 14 ∷ 7 ∷ [])
+    (1 ∷ 10 ∷ 11 ∷ 0 ∷ 0 ∷ 2 ∷ 5 ∷ 9 ∷ 3 ∷ 2 ∷ 2 ∷ 10 ∷ 14 ∷ 7 ∷ 1 ∷ [])
     (2 ∷ 1 ∷ 1 ∷ 0xC0000001 ∷ 0xC0000001 ∷ 0xC0000000 ∷ 0xC0000000 ∷ 0xC0000001 ∷ 0xC0000001 ∷ 0xC0000001 ∷ 0xC0000000 ∷ [])
     (0xA0000001 ∷ 0x80000002 ∷ 0xC0000002 ∷ 0xA0000003 ∷ 0x80000004 ∷ 0xC0000002 ∷ 0xA0000004 ∷ 0x80000005 ∷ 0xC0000002 ∷ 0x80000006 ∷ 0xC0000001 ∷ 0xA0000007 ∷ 0xC0000001 ∷ 0x80000008 ∷ 0xC0000001 ∷ 0xA0000008 ∷ 0x8000000A ∷ 0xC0000002 ∷ 0xA0000008 ∷ 0x80000001 ∷ 0x80000009 ∷ 0xC0000003 ∷ 0xA0000008 ∷ 0x80000002 ∷ 0x80000009 ∷ 0xC0000003 ∷ 0xA0000009 ∷ 0x80000006 ∷ 0xC0000002 ∷ 0xA0000009 ∷ 0x80000003 ∷ 0x80000006 ∷ 0xC0000003 ∷ 0xA0000009 ∷ 0x80000004 ∷ 0x80000007 ∷ 0xC0000003 ∷ 0xA0000009 ∷ 0x80000005 ∷ 0x80000007 ∷ 0xC0000003 ∷ 0xA000000A ∷ 0x80000006 ∷ 0xC0000002 ∷ 0xA000000A ∷ 0x80000003 ∷ 0x80000006 ∷ 0xC0000003 ∷ 0xA000000A ∷ 0x80000004 ∷ 0x80000006 ∷ 0xC0000003 ∷ 0xA000000A ∷ 0x80000005 ∷ 0x80000007 ∷ 0xC0000003 ∷ [])
     ∷
-    -- V: the labels.
+    -- V: the labels, and by request Six the numbers of entering edges.
     acceptedRow (0x00000009 ∷ 0x40010004 ∷ 0x40010002 ∷ 0x40010005 ∷ 0x40010004 ∷ []) (values 0 0 6 12 48)
-    (1 ∷ 9 ∷ 9 ∷ 0 ∷ 2 ∷ 5 ∷ 5 ∷ 2 ∷ 2 ∷ 9 ∷ 10 ∷ 4 ∷ 3 ∷ 0 ∷ 3 ∷ 6 ∷ 3 ∷ 5 ∷ 8 ∷ 8 ∷ 4 ∷ 0 ∷ 3 ∷ 10 ∷ [])
+    (1 ∷ 9 ∷ 9 ∷ 0 ∷ 0 ∷ 2 ∷ 5 ∷ 5 ∷ 2 ∷ 1 ∷ 2 ∷ 9 ∷ 10 ∷ 4 ∷ 1 ∷ 3 ∷ 0 ∷ 3 ∷ 6 ∷ 1 ∷ 3 ∷ 5 ∷ 8 ∷ 8 ∷ 2 ∷ 4 ∷ 0 ∷ 3 ∷ 10 ∷ 2 ∷ [])
     (2 ∷ 1 ∷ 4 ∷ 3 ∷ 0xC0000001 ∷ 4 ∷ 5 ∷ 0xC0000000 ∷ 0xC0000001 ∷ 5 ∷ 0xC0000001 ∷ 0xC0000000 ∷ [])
     (0x80000005 ∷ 0xC0000001 ∷ 0xA0000006 ∷ 0xC0000001 ∷ 0x80000007 ∷ 0xC0000001 ∷ 0xA0000007 ∷ 0x80000009 ∷ 0xC0000002 ∷ 0xA0000007 ∷ 0x80000001 ∷ 0x80000008 ∷ 0xC0000003 ∷ 0xA0000008 ∷ 0x8000000B ∷ 0xC0000002 ∷ 0xA0000008 ∷ 0x80000002 ∷ 0x8000000A ∷ 0xC0000003 ∷ 0xA0000009 ∷ 0x80000005 ∷ 0xC0000002 ∷ 0xA0000009 ∷ 0x80000002 ∷ 0x8000000B ∷ 0xC0000003 ∷ 0xA000000A ∷ 0x8000000C ∷ 0xC0000002 ∷ 0xA000000A ∷ 0x80000003 ∷ 0x80000006 ∷ 0xC0000003 ∷ 0xA000000B ∷ 0x80000005 ∷ 0xC0000002 ∷ 0xA000000B ∷ 0x80000003 ∷ 0x8000000C ∷ 0xC0000003 ∷ 0xA000000C ∷ 0x80000005 ∷ 0xC0000002 ∷ 0xA000000C ∷ 0x80000004 ∷ 0x80000006 ∷ 0xC0000003 ∷ [])
     ∷
-    -- W: the root's label and children.
+    -- W: the root's label and children, both edges to node 1.
     acceptedRow (0x00000003 ∷ 0x40010001 ∷ 0x40010005 ∷ []) (values 0 0 2 4 20)
-    (1 ∷ 1 ∷ 4 ∷ 0 ∷ 2 ∷ 0 ∷ 4 ∷ 2 ∷ [])
+    (1 ∷ 1 ∷ 4 ∷ 0 ∷ 0 ∷ 2 ∷ 0 ∷ 4 ∷ 2 ∷ 2 ∷ [])
     (1 ∷ 1 ∷ 0xC0000001 ∷ 0xC0000000 ∷ [])
     (0x80000003 ∷ 0xC0000001 ∷ 0xA0000004 ∷ 0xC0000001 ∷ 0x80000005 ∷ 0xC0000001 ∷ 0xA0000005 ∷ 0x80000006 ∷ 0xC0000002 ∷ 0xA0000005 ∷ 0x80000001 ∷ 0x80000006 ∷ 0xC0000003 ∷ 0xA0000006 ∷ 0x80000003 ∷ 0xC0000002 ∷ 0xA0000006 ∷ 0x80000002 ∷ 0x80000004 ∷ 0xC0000003 ∷ [])
     ∷
@@ -111,5 +112,5 @@ exercises =
 
 -- THE ONE FACT: the definitions give every row.
 pub marked : map given exercises ≡ exercises
-unfolding overlap labelOf insert place addKey addRow keysBelow rootKeys edgeTo row nodeOfKey nodesFrom table root recordsFrom flat edgeWords edgeCount orderWords nodeWords eachFrom placedFrom termsFrom checked asWritten stated countsWithin encoded exercises
+unfolding overlap labelOf insert place addKey addRow keysBelow rootKeys edgeTo row nodeOfKey nodesFrom table root times entering recordsFrom flat edgeWords edgeCount orderWords nodeWords eachFrom placedFrom termsFrom checked asWritten stated countsWithin encoded exercises
 marked = refl

@@ -1,7 +1,7 @@
 // Words: kind and payload, the words that the encoder writes, and the three numbers that must not be taken for each other.
 ghost use mathlib.Core.Path.{_≡_};
 ghost use mathlib.Core.Bool.{true, false};
-ghost use Prim.Native.Nat.{_+_, _≤_};
+ghost use Prim.Native.Nat.{_≤_};
 ghost use Rattle.word.specs.Word.{kind, payload, domainEnd, coefficient, boolean, negated, lastBoolean, literalWord, lastCount, endWord, ofBytes};
 ghost use Rattle.word.specs.Padded.{cleared};
 ghost use Rattle.word.specs.Edge.{to, edgeWord, edgeIn, edgeBoolean, edgeOf};
@@ -23,14 +23,16 @@ pub enum Child {
 }
 
 // The words of a node's record in the flat table. The level stands first.
-pub const RECORD: usize = 4;
+pub const RECORD: usize = 5;
 
-// Where in them the other fields stand: both ends of the label, and the first place in the edge list.
+// Where in them the other fields stand: both ends of the label, the first place in the edge list, and the number of entering edges.
 pub const LOWER: usize = 1;
 
 pub const UPPER: usize = 2;
 
 pub const FIRST: usize = 3;
+
+pub const ENTERING: usize = 4;
 
 // The most nodes that a table is filled with, however long it is.
 pub const NODES: usize = 65536;

@@ -19,6 +19,7 @@ pub struct Node {
     pub lower: u32,
     pub upper: u32,
     pub first: u32,
+    pub entering: u32,
 }
 
 #[repr(C)]

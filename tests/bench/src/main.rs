@@ -4,6 +4,7 @@ mod compare;
 mod text;
 
 use reference::constraint::Constraint;
+use reference::diagram::RECORD;
 use reference::encode::Build;
 use reference::{encode, fixed, maps, sums};
 use std::hint::black_box;
@@ -72,10 +73,10 @@ fn main() {
     for (count, c) in fixed::sizes() {
         let d = sums::build(&c, 65_536).unwrap();
         assert_eq!(d.nodes.len(), count);
-        let lengths = [4 * count, d.edges.len(), reference::clauses::clauses(&c, &d).len()];
+        let lengths = [RECORD * count, d.edges.len(), reference::clauses::clauses(&c, &d).len()];
         line(&format!("{count} nodes"), &c, lengths);
     }
-    let room = [262_144, 1_048_576, 4_194_304];
+    let room = [RECORD * 65_536, 1_048_576, 4_194_304];
     println!("Refused with 6; lists of {room:?} words, zeroed by each call:");
     line("65,537 nodes", &fixed::full_with(2), room);
     line("far more", &fixed::beyond(), room);

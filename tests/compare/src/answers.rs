@@ -3,7 +3,7 @@
 use crate::call::{both, differ, hex, Given};
 use crate::encoder::needs;
 use crate::signed::{spelled, written};
-use reference::diagram::{FALSE, TRUE};
+use reference::diagram::{FALSE, RECORD, TRUE};
 use reference::maps;
 use reference::random::Random;
 use reference::written::Written;
@@ -30,7 +30,7 @@ fn root(g: &Given, w: &Written) -> u32 {
 fn reached(g: &Given, root: u32, choice: &[i64]) -> u32 {
     let mut edge = root;
     while edge < FALSE {
-        let record = &g.table[4 * edge as usize..][..4];
+        let record = &g.table[RECORD * edge as usize..][..RECORD];
         edge = g.edges[record[3] as usize + choice[record[0] as usize - 1] as usize];
     }
     edge

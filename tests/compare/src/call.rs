@@ -2,6 +2,7 @@
 
 use crate::lent::{rubbish, Lent, SIDES};
 use archive::Encoded;
+use reference::diagram::{FALSE, RECORD};
 use reference::encode::{encode, Build, Counts};
 use reference::random::Random;
 use reference::refusal::Refusal;
@@ -29,6 +30,25 @@ pub struct Given {
     pub clauses: Vec<u32>,
 }
 
+impl Given {
+    /// The records of the nodes.
+    pub fn records(&self) -> impl Iterator<Item = &[u32]> {
+        self.table.chunks_exact(RECORD).take(self.reply.nodes as usize)
+    }
+
+    /// How many edges enter each node, by the records.
+    pub fn entering(&self) -> Vec<u32> {
+        self.records().map(|r| r[4]).collect()
+    }
+
+    /// Whether the edges that enter nodes add up to those that lead to nodes, and every node but the root is entered by some.
+    fn entered(&self) -> bool {
+        let to_nodes = self.edges[..self.reply.edges as usize].iter().filter(|edge| **edge < FALSE).count();
+        let counts = self.entering();
+        counts.iter().map(|n| *n as usize).sum::<usize>() == to_nodes && counts.iter().enumerate().all(|(k, n)| (*n == 0) == (k == 0))
+    }
+}
+
 /// The reference's result as the reply that it stands for.
 pub fn reply_of(told: Result<Counts, Refusal>) -> Encoded {
     match told {
@@ -38,6 +58,7 @@ pub fn reply_of(told: Result<Counts, Refusal>) -> Encoded {
 }
 
 /// Calls both encoders with lists of these lengths, ours with the unreadable page on each side in turn, and compares replies, every lent word and the margins.
+/// Then the edges that enter nodes are added up.
 pub fn both(r: &mut Random, build: Build, words: &[u32], lengths: [usize; 3]) -> Given {
     let before = lengths.map(|n| rubbish(r, n, |w| w));
     let mut after = before.clone();
@@ -61,5 +82,9 @@ pub fn both(r: &mut Random, build: Build, words: &[u32], lengths: [usize; 3]) ->
         }
     }
     let [table, edges, clauses] = after;
-    Given { reply, table, edges, clauses }
+    let given = Given { reply, table, edges, clauses };
+    if !given.entered() {
+        differ("the edges that enter nodes", format!("words {}\n{reply:?}\ncounts {:?}", hex(words), given.entering()));
+    }
+    given
 }

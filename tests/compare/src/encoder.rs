@@ -1,33 +1,35 @@
 //! The encoder on random constraints: needs that just fit and just do not, and damaged words.
 
-use crate::call::both;
-use archive::Encoded;
+use crate::call::{both, Given};
 use reference::clauses::clauses;
 use reference::constraint::Constraint;
+use reference::diagram::RECORD;
 use reference::encode::Build;
 use reference::random::Random;
 use reference::words::read;
 use reference::{maps, sums};
 
-/// How many calls gave each number, the most nodes of an accepted one, and how many constraints have the root F and the root T.
+/// How many calls gave each number, the most nodes of an accepted one and the most edges into one of them, and how many constraints have the root F and the root T.
 pub struct Tally {
     pub constraints: u64,
     pub calls: u64,
     pub numbers: [u64; 19],
     pub nodes: u64,
+    pub entering: u32,
     pub never: u64,
     pub always: u64,
 }
 
 impl Tally {
     fn new(constraints: u64) -> Tally {
-        Tally { constraints, calls: 0, numbers: [0; 19], nodes: 0, never: 0, always: 0 }
+        Tally { constraints, calls: 0, numbers: [0; 19], nodes: 0, entering: 0, never: 0, always: 0 }
     }
 
-    fn call(&mut self, reply: Encoded) {
+    fn call(&mut self, g: Given) {
         self.calls += 1;
-        self.numbers[reply.number as usize] += 1;
-        self.nodes = self.nodes.max(reply.nodes);
+        self.numbers[g.reply.number as usize] += 1;
+        self.nodes = self.nodes.max(g.reply.nodes);
+        self.entering = g.entering().into_iter().fold(self.entering, u32::max);
     }
 
     /// Counts the root of the words' constraint; gives what it needs.
@@ -42,7 +44,7 @@ impl Tally {
 /// The lengths that a constraint needs for its table, edge list and clause list.
 pub fn needs(c: &Constraint) -> [usize; 3] {
     let d = sums::build(c, 1 << 20).unwrap();
-    [4 * d.nodes.len(), d.edges.len(), clauses(c, &d).len()]
+    [RECORD * d.nodes.len(), d.edges.len(), clauses(c, &d).len()]
 }
 
 /// Where the words of a round come from.
@@ -75,10 +77,11 @@ pub fn valid(r: &mut Random, rounds: u64, source: Source) -> Tally {
         let words = source(r);
         let [t, e, w] = tally.needs(&words);
         let mut lengths = edge_lengths([t, e, w]);
-        lengths.extend([[t + 7, e + 5, w + 9], [t + 3, e, w], [0, 0, 0], [0, e, w], [t, 0, w], [t, e, 0], [t, 0, 0], [0, e, 0], [0, 0, w]]);
+        lengths.extend([[t + RECORD + 3, e + 5, w + 9], [t + RECORD - 1, e, w]]);
+        lengths.extend([[0, 0, 0], [0, e, w], [t, 0, w], [t, e, 0], [t, 0, 0], [0, e, 0], [0, 0, w]]);
         lengths.extend((0..2).map(|_| [t, e, w].map(|n| r.below(n as u64 + 3) as usize)));
         for l in lengths {
-            tally.call(both(r, way(round), &words, l).reply);
+            tally.call(both(r, way(round), &words, l));
         }
     }
     tally
@@ -90,7 +93,7 @@ pub fn larger(r: &mut Random, rounds: u64, source: Source) -> Tally {
     for round in 0..rounds {
         let words = source(r);
         for l in edge_lengths(tally.needs(&words)) {
-            tally.call(both(r, way(round), &words, l).reply);
+            tally.call(both(r, way(round), &words, l));
         }
     }
     tally
@@ -101,9 +104,9 @@ pub fn damaged(r: &mut Random, rounds: u64, source: Source) -> Tally {
     let mut tally = Tally::new(rounds);
     for round in 0..rounds {
         let words = source(r);
-        let lengths = [r.below(120) as usize, r.below(200) as usize, r.below(800) as usize];
-        tally.call(both(r, way(round), &words, lengths).reply);
-        tally.call(both(r, way(round), &words, [0, 0, 0]).reply);
+        let lengths = [r.below(30 * RECORD as u64) as usize, r.below(200) as usize, r.below(800) as usize];
+        tally.call(both(r, way(round), &words, lengths));
+        tally.call(both(r, way(round), &words, [0, 0, 0]));
     }
     tally
 }
@@ -119,7 +122,7 @@ pub fn every(r: &mut Random, most: u32) -> Tally {
                 let later = (0..length).map(|k| WORDS[number / WORDS.len().pow(k) % WORDS.len()]);
                 let words: Vec<u32> = [bound].into_iter().chain(later).collect();
                 tally.constraints += 1;
-                tally.call(both(r, maps::build, &words, [24, 20, 90]).reply);
+                tally.call(both(r, maps::build, &words, [6 * RECORD, 20, 90]));
             }
         }
     }

@@ -4,12 +4,13 @@ use crate::call::{both, differ, hex};
 use crate::inputs::constraint;
 use crate::lent::{Lent, SIDES};
 use archive::{Found, Node};
+use reference::diagram::RECORD;
 use reference::random::Random;
 use reference::{maps, sums};
 
 /// The full records of a table.
 fn nodes(table: &[u32]) -> Vec<Node> {
-    table.chunks_exact(4).map(|w| Node { level: w[0], lower: w[1], upper: w[2], first: w[3] }).collect()
+    table.chunks_exact(RECORD).map(|w| Node { level: w[0], lower: w[1], upper: w[2], first: w[3], entering: w[4] }).collect()
 }
 
 /// The finder of the archive, over the flat table and over its records, and of the reference; true where it finds.
@@ -44,15 +45,15 @@ pub fn random(r: &mut Random, rounds: u64) -> (u64, u64) {
     for _ in 0..rounds {
         let c = constraint(r);
         let needs = sums::build(&c, 1 << 20).unwrap();
-        let room = 4 * needs.nodes.len() + r.below(9) as usize;
+        let room = RECORD * needs.nodes.len() + r.below(2 * RECORD as u64 + 1) as usize;
         let g = both(r, maps::build, &c.words(), [room, needs.edges.len(), 70_000]);
         for _ in 0..8 {
-            let k = 4 * r.below(room as u64 / 4 + 1) as usize;
-            let (level, near) = if k + 4 <= room { (g.table[k], g.table[k + 1 + r.below(2) as usize]) } else { (0, 0) };
+            let k = RECORD * r.below((room / RECORD) as u64 + 1) as usize;
+            let (level, near) = if k + RECORD <= room { (g.table[k], g.table[k + 1 + r.below(2) as usize]) } else { (0, 0) };
             ask(&g.table, level, near.wrapping_add(r.below(3) as u32).wrapping_sub(1));
             ask(&g.table, level + r.below(2) as u32, near);
         }
-        let length = r.below(40) as usize;
+        let length = r.below(10 * RECORD as u64) as usize;
         let small = r.once_in(2);
         let any: Vec<u32> =
             (0..length).map(|_| if small { r.below(4) as u32 } else { r.word() | (r.below(2) as u32).wrapping_neg() }).collect();

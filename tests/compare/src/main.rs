@@ -31,7 +31,8 @@ fn numbers(tally: &[u64]) -> String {
 fn report(name: &str, t: &encoder::Tally) {
     let counted = t.never + t.always > 0;
     let roots = if counted { format!(", root F: {}, root T: {}", t.never, t.always) } else { String::new() };
-    println!("{name}: {}, calls: {} (by number, {}), most nodes: {}{roots}", t.constraints, t.calls, numbers(&t.numbers), t.nodes);
+    let most = format!("most nodes: {}, most edges into one: {}", t.nodes, t.entering);
+    println!("{name}: {}, calls: {} (by number, {}), {most}{roots}", t.constraints, t.calls, numbers(&t.numbers));
 }
 
 /// A line on one kind of call over DIMACS text.
@@ -94,6 +95,7 @@ fn main() {
     let begin = std::time::Instant::now();
     let mut r = Random::new(1);
     println!("exercises P to ZZ: {}", exercises::rows(&mut r));
+    println!("lists that just fit, or do not: {}", exercises::rooms(&mut r));
     println!("limits of the words: {}", exercises::limits(&mut r));
     println!("request Five: {} refused or at a limit, {} drawn", signs::refused(&mut r), signs::drawn(&mut r));
     println!("request Five: {} with farthest lower ends that balance, {} that do not", signs::balanced(&mut r), signs::farthest(&mut r));

@@ -75,14 +75,14 @@ const REFUSED: &[(&str, u64, u64)] = &[
 ];
 
 /// What exercise R prints.
-const R: &str = "nodes 3 edges 11 words 56\n0 1 12 13 2 2 1\n1 2 5 9 T T F F\n2 2 10 14 T T T F\n";
+const R: &str = "nodes 3 edges 11 words 56\n0 1 12 13 0 2 2 1\n1 2 5 9 1 T T F F\n2 2 10 14 2 T T T F\n";
 
 /// The last clause of exercise R.
 const R_LAST: &str = "A000000A 80000005 80000007 C0000003";
 
 /// What is printed for one term of two values: where there is no node, and where only the value that the base form counts from satisfies the constraint.
 const NONE: &str = "nodes 0 edges 0 words 6\n";
-const ONE: &str = "nodes 1 edges 2 words 13\n0 1 0 0 T F\n";
+const ONE: &str = "nodes 1 edges 2 words 13\n0 1 0 0 0 T F\n";
 
 /// The last clauses there: the root is F, it is T, or it is the node, whose second child is F.
 const NEVER: &str = "80000003 C0000001";
@@ -94,16 +94,16 @@ pub const DRAWN: &[(&str, &str, &str)] = &[
     // The examples: 3u - 2v >= -4 with u 0..4 and v -2..5; y > 3 and y >= 3 with y 0..3; -y <= 5.
     (
         "1FFFFFFC C0000002 40040003 9FFFFFFE 60070002",
-        "nodes 3 edges 21 words 114\n0 1 20 20 T T T 2 1\n1 2 8 9 T T T T T F F F\n2 2 10 11 T T T T T T F F\n",
+        "nodes 3 edges 21 words 114\n0 1 20 20 0 T T T 2 1\n1 2 8 9 1 T T T T T F F F\n2 2 10 11 1 T T T T T T F F\n",
         "A0000010 8000000B 8000000D C0000003",
     ),
     ("20000003 C0000003 40030001", "nodes 0 edges 0 words 12\n", "80000005 C0000001"),
-    ("20000003 C0000002 40030001", "nodes 1 edges 4 words 27\n0 1 0 0 T F F F\n", "A0000006 80000003 80000005 C0000003"),
+    ("20000003 C0000002 40030001", "nodes 1 edges 4 words 27\n0 1 0 0 0 T F F F\n", "A0000006 80000003 80000005 C0000003"),
     ("00000005 60010001", NONE, ALWAYS),
     // y < 3 and y <= 3; -y <= -3.
-    ("20000003 C0000001 40030001", "nodes 1 edges 4 words 27\n0 1 2 2 T T T F\n", "A0000006 80000003 80000005 C0000003"),
+    ("20000003 C0000001 40030001", "nodes 1 edges 4 words 27\n0 1 2 2 0 T T T F\n", "A0000006 80000003 80000005 C0000003"),
     ("20000003 C0000000 40030001", "nodes 0 edges 0 words 12\n", "80000004 C0000001"),
-    ("1FFFFFFD C0000000 60030001", "nodes 1 edges 4 words 27\n0 1 0 0 T F F F\n", "A0000006 80000003 80000005 C0000003"),
+    ("1FFFFFFD C0000000 60030001", "nodes 1 edges 4 words 27\n0 1 0 0 0 T F F F\n", "A0000006 80000003 80000005 C0000003"),
     // y 1..2 is at most 0, and at most 1; y 1,000,000..1,000,001 is at least its upper end; -y, y -1,000,000..-999,999, is more than 999,999.
     ("00000000 A0000001 40010001", NONE, NEVER),
     ("00000001 A0000001 40010001", ONE, ONE_LAST),

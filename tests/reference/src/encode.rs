@@ -2,7 +2,7 @@
 
 use crate::clauses::clauses;
 use crate::constraint::Constraint;
-use crate::diagram::Diagram;
+use crate::diagram::{Diagram, RECORD};
 use crate::lent::place;
 use crate::refusal::Refusal;
 use crate::words::read;
@@ -21,7 +21,7 @@ pub struct Counts {
 /// The whole call: the counts or the refusal, and the three lists as the specification leaves them.
 pub fn encode(build: Build, words: &[u32], table: &mut [u32], edges: &mut [u32], list: &mut [u32]) -> Result<Counts, Refusal> {
     let c = read(words)?.base();
-    let made = build(&c, (table.len() / 4).min(65_536));
+    let made = build(&c, (table.len() / RECORD).min(65_536));
     let number = match &made {
         None => 6,
         Some(d) if d.edges.len() > edges.len() => 7,
@@ -35,8 +35,7 @@ pub fn encode(build: Build, words: &[u32], table: &mut [u32], edges: &mut [u32],
         return Err(Refusal { number, place: 0 });
     }
     let d = made.unwrap();
-    let flat: Vec<u32> = d.nodes.iter().flat_map(|n| [n.level as u32, n.low as u32, n.high as u32, n.first as u32]).collect();
-    place(table, &flat);
+    place(table, &d.table());
     place(edges, &d.edges);
     place(list, &text);
     Ok(Counts { nodes: d.nodes.len() as u64, edges: d.edges.len() as u64, words: text.len() as u64 })

@@ -1,6 +1,7 @@
 //! The text that the solvers are asked about, beside the clause words that it stands for.
 
 use archive::program::{bytes_of, printed};
+use reference::diagram::RECORD;
 
 /// A text and its clause words.
 pub struct Clauses {
@@ -11,7 +12,7 @@ pub struct Clauses {
 impl Clauses {
     /// What the program prints for the constraint of the words, and the encoder's clause words.
     pub fn of(constraint: &[u32]) -> Clauses {
-        let (mut table, mut edges, mut words) = (vec![0; 4_096], vec![0; 8_192], vec![0; 16_384]);
+        let (mut table, mut edges, mut words) = (vec![0; RECORD * 1_024], vec![0; 8_192], vec![0; 16_384]);
         let reply = archive::encode(constraint, &mut table, &mut edges, &mut words);
         assert_eq!(reply.number, 0, "{constraint:08X?} is refused");
         words.truncate(reply.words as usize);

@@ -46,6 +46,7 @@ use denote.Triple.Table.{entered, cited}
 use denote.Triple.Walked.{says, Stays, stay-none-slice, stay-none, walkOf, Walks, ends-at, walked, goes-none-slice, goes-none, walk-meets}
 use denote.Triple.Clauses.{ensured, lasts}
 use denote.Exit.{yes}
+use Rattle.word.specs.Record.{recordWords}
 use Rattle.word.specs.declared.Remainder.{Remainder}
 use Rattle.word.proofs.Giving.{gives}
 use Rattle.word.proofs.Remainder as R
@@ -76,10 +77,14 @@ use Rattle.finder_records.proofs.find.Code.Mir as body
 
 -- what stands past the end of the slice
 abbrev none : Node
-none = record { level = 0; lower = 0; upper = 0; first = 0 }
+none = record { level = 0; lower = 0; upper = 0; first = 0; entering = 0 }
 
 -- a node's place in bytes is a number of 64 bits
-place-fits : (i n : ℕ) → i < n → n * 16 < 2 ^ 63 → i * 16 < 2 ^ 64
+-- the bytes of a node's struct
+abbrev nodeBytes : ℕ
+nodeBytes = recordWords * 4
+
+place-fits : (i n : ℕ) → i < n → n * nodeBytes < 2 ^ 63 → i * nodeBytes < 2 ^ 64
 place-fits i n l r = omega arith
 
 -- the search before the first record has its machine value
@@ -259,7 +264,7 @@ module _ {M : Type 1} (𝓤 : URA M) (H : Heap 𝓤) (A : Atoms 𝓤) (W : Given
         (store ! 8 refl (tt, place)) $
         assigns ! (bin ! (load ! (from ! (fld ! refl (stop !))) (look-in ! 18 (sub ! 0 refl (whole !)))) (load ! (from ! (stop !)) (look ! 8 refl)) tt)
         (from ! (stop !)) (init ! 4 refl (tt, tt)) $
-        rewrite ! 4 (λ (p : ℕ). ‵ (fat fullShare tyPtr l₈ 0 (vptr b p))) (sym (place-is 16 o (number s))) refl $
+        rewrite ! 4 (λ (p : ℕ). ‵ (fat fullShare tyPtr l₈ 0 (vptr b p))) (sym (place-is nodeBytes o (number s))) refl $
         -- _9 = the node: the slice is looked into, and shut again
         move ! (23 ∷ []) $ fsplit ! $ move ! (1 ∷ []) $ fsplit ! $ move ! (25 ∷ []) $ move ! (2 ∷ 0 ∷ []) $
         looks-slice ! tt N.the-row (Is N.the-row) (shows 𝓤 H A N.the-row) (struct.vals N.the-type N′.the-laws) (struct.tells N.the-type N′.the-laws)
@@ -294,7 +299,7 @@ module _ {M : Type 1} (𝓤 : URA M) (H : Heap 𝓤) (A : Atoms 𝓤) (W : Given
         keep ! (2 ∷ 3 ∷ 4 ∷ 5 ∷ 6 ∷ 7 ∷ 8 ∷ 9 ∷ 10 ∷ 11 ∷ 12 ∷ 13 ∷ 14 ∷ 15 ∷ 16 ∷ 17 ∷ 18 ∷ 19 ∷ 20 ∷ 21 ∷ 22 ∷ 23 ∷ 1 ∷ 0 ∷ 24 ∷ []) $
         again ! Nearer At s (next-spot s inside t e u is) (is-nearer s inside t e u is)))))))
       where
-        place : Fits w64 (number s * 16)
+        place : Fits w64 (number s * nodeBytes)
         place = record { fits = place-fits (number s) n inside (room .1) }
 
     leaves : (s : Spot) → n ≤ number s → Sq W (Tested s) (runs C Λ En body.t-4 (atRet En Post))

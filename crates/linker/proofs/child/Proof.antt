@@ -2,17 +2,17 @@
 use borrow.Author.Needs.{needs}
 use native.Mathlib.Omega.{arith}
 use mathlib.Core.Path.{sym, ap, _∙_}
-use Rattle.word.specs.Record.{used}
+use Rattle.word.specs.Record.{labelled}
 use Rattle.linker.specs.Row.{edgeFound}
 use Rattle.linker.proofs.Turns.{child-below, child-top, child-found}
 use Rattle.linker.proofs.child.Statement.{statement}
 use Rattle.linker.proofs.child.Tie as tie
 
 returns : tie.Need-returns
-returns c = let a = c .before .before .args in child-below (used (a .table .now) (a .count)) (a .level) (a .top) (a .lower) (a .taken) (omega arith)
+returns c = let a = c .before .before .args in child-below (labelled (a .table .now) (a .count)) (a .level) (a .top) (a .lower) (a .taken) (omega arith)
 
 returns-2 : tie.Need-returns-2
-returns-2 c = let a = c .before .before .before .args in child-top (used (a .table .now) (a .count)) (a .level) (a .top) (a .lower) (a .taken) (omega arith) (omega arith)
+returns-2 c = let a = c .before .before .before .args in child-top (labelled (a .table .now) (a .count)) (a .level) (a .top) (a .lower) (a .taken) (omega arith) (omega arith)
 
 find-from-requires : tie.Need-find-from-requires
 find-from-requires c κs = search needs
@@ -27,13 +27,13 @@ returns-3 : tie.Need-returns-3
 returns-3 c =
     let a = c .before .before .before .before .before .before .before .args in
     ap edgeFound (sym (c .enum-told .given .1))
-    ∙ child-found (used (a .table .now) (a .count)) (a .level) (a .top) (a .lower) (a .taken) (omega arith) (omega arith) _ (c .before .before .find-from .ensures)
+    ∙ child-found (labelled (a .table .now) (a .count)) (a .level) (a .top) (a .lower) (a .taken) (omega arith) (omega arith) _ (c .before .before .find-from .ensures)
 
 returns-4 : tie.Need-returns-4
 returns-4 c =
     let a = c .before .before .before .before .before .before .before .before .args in
     ap edgeFound (sym (c .before .k .given .1))
-    ∙ child-found (used (a .table .now) (a .count)) (a .level) (a .top) (a .lower) (a .taken) (omega arith) (omega arith) _ (c .before .before .before .find-from .ensures)
+    ∙ child-found (labelled (a .table .now) (a .count)) (a .level) (a .top) (a .lower) (a .taken) (omega arith) (omega arith) _ (c .before .before .before .find-from .ensures)
 
 pub child-spec : {M : Type 1} → statement M
 child-spec =

@@ -2,15 +2,16 @@
 -- measure is the number of records left. Assumes nothing.
 use Prim.Native.Nat.{_-_}
 use native.Mathlib.Omega.{arith}
-use mathlib.Core.Path.{refl}
+use mathlib.Core.Path.{refl, _∙_}
 use lib.ListN.{length-set}
-use Rattle.linker.proofs.Children.{ready, linked}
+use Rattle.linker.proofs.Children.{ready, linked, row-in, cleared-finished, cleared-linked, cleared-counts}
 use Rattle.linker.proofs.Turns.{Turn, turn-start, turn-next, turn-end}
 use Rattle.linker.proofs.Facts.{Facts, facts}
 use Rattle.linker.proofs.link.Statement.{statement}
 use Rattle.linker.proofs.link.Tie as tie
 use Rattle.linker.proofs.link.Reads as reads
 use Rattle.linker.proofs.link.Lts as lts
+use Rattle.linker.proofs.clear_entering.Reads as clear-reads
 use Rattle.linker.proofs.row.Reads as row-reads
 
 abbrev Inv-loop : tie.InvT-loop
@@ -20,14 +21,24 @@ abbrev μ-loop : tie.MeasureT-loop
 μ-loop coefs ends rests table₀ count edges₀ cursors₀ first₀ k₀ table edges cursors first k = count - k
 
 -- what holds where the loop's body begins
-known : (c : lts.In-loop (row-reads.Asked, row-reads.Learnt) reads.Pre reads.Post Inv-loop μ-loop)
-    → let a = c .before .before .before .before .before .before .before .args in
+known : (c : lts.In-loop (clear-reads.Asked, clear-reads.Learnt, row-reads.Asked, row-reads.Learnt) reads.Pre reads.Post Inv-loop μ-loop)
+    → let a = c .before .before .before .before .before .before .before .before .before .before .before .args in
     let l = c .before .loop in
     Facts (a .coefs .now) (a .ends .now) (a .rests .now) (a .count) (l .table) (l .edges) (l .first) (l .k)
-known c = let s = c .before .before .before .before .before .before .before in facts (s .pre .0) (s .pre .1) (c .before .loop .inv) (c .loop-test .taken)
+known c =
+    let s = c .before .before .before .before .before .before .before .before .before .before .before in
+    let done = cleared-finished (s .args .coefs .now) (s .args .ends .now) (s .pre .1 .0) (s .args .table .now) _ (s .args .count) (s .args .edges .now) (c .before .before .before .before .clear-entering .ensures) (s .pre .1 .1) in
+    facts (s .pre .0) (s .pre .1 .0, done) (c .before .loop .inv) (c .loop-test .taken)
+
+clear-entering-requires : tie.Need-clear-entering-requires Inv-loop μ-loop
+clear-entering-requires c κs = c .before .before .before .before .before .before .pre .1 .1 .room
 
 loop-holds : tie.Need-loop-holds Inv-loop μ-loop
-loop-holds c = let a = c .before .before .before .before .before .args in turn-start (a .coefs .now) (a .ends .now) (a .rests .now) (a .table .now) (a .edges .now) (a .count)
+loop-holds c =
+    let s = c .before .before .before .before .before .before .before .before .before in
+    let a = s .args in
+    turn-start (a .coefs .now) (a .ends .now) (a .rests .now) _ (a .edges .now) (a .count)
+    (cleared-counts (a .table .now) _ (a .count) (c .before .before .clear-entering .ensures) (s .pre .1 .1 .room))
 
 mul-b : tie.Need-mul-b Inv-loop μ-loop
 mul-b c = let f = known c in omega arith
@@ -92,48 +103,56 @@ shared-slice-read-row-2 c = let f = known (c .before .before .before .before .be
 row-requires : tie.Need-row-requires Inv-loop μ-loop
 row-requires c κs =
     let f = known (c .before .before .before .before .before .before .before .before) in
-    ((f .countable .few, simp length-set (f .countable .room), f .sorted), (f .coef-small, f .here .small, f .fits))
+    ((f .countable .few, simp length-set (f .countable .room), f .sorted), ((f .coef-small, f .here .small, f .fits), f .counts))
 
 cast-first : tie.Need-cast-first Inv-loop μ-loop
-cast-first c = let f = known (c .before .before .before .before .before .before .before .before .before .before .before) in omega arith
+cast-first c = let f = known (c .before .before .before .before .before .before .before .before .before .before .before .before .before) in omega arith
 
 add-first : tie.Need-add-first Inv-loop μ-loop
-add-first c = let f = known (c .before .before .before .before .before .before .before .before .before .before .before) in omega arith
+add-first c = let f = known (c .before .before .before .before .before .before .before .before .before .before .before .before .before) in omega arith
 
 add-first-2 : tie.Need-add-first-2 Inv-loop μ-loop
-add-first-2 c = let f = known (c .before .before .before .before .before .before .before .before .before .before .before) in omega arith
+add-first-2 c = let f = known (c .before .before .before .before .before .before .before .before .before .before .before .before .before) in omega arith
 
 add-k : tie.Need-add-k Inv-loop μ-loop
-add-k c = let f = known (c .before .before .before .before .before .before .before .before .before .before .before) in omega arith
+add-k c = let f = known (c .before .before .before .before .before .before .before .before .before .before .before .before .before) in omega arith
 
 loop-less : tie.Need-loop-less Inv-loop μ-loop
-loop-less c = let f = known (c .before .before .before .before .before .before .before .before .before .before .before) in omega arith
+loop-less c = let f = known (c .before .before .before .before .before .before .before .before .before .before .before .before .before) in omega arith
 
 loop-again : tie.Need-loop-again Inv-loop μ-loop
 loop-again c =
-    let t = c .before .before .before .before .before .before .before .before .before .before .before in
-    let s = t .before .before .before .before .before .before .before in
+    let t = c .before .before .before .before .before .before .before .before .before .before .before .before .before in
+    let s = t .before .before .before .before .before .before .before .before .before .before .before in
     let a = s .args in
     let l = t .before .loop in
-    let r = ready (a .coefs .now) (a .ends .now) (a .rests .now) (s .pre .0) (s .pre .1 .0) (a .table .now) (a .count) (a .edges .now) (s .pre .1 .1) in
-    turn-next (a .coefs .now) (a .ends .now) (a .rests .now) (a .table .now) (a .edges .now) (a .count) (l .table) (l .edges) (l .first) (l .k)
-    (r .countable .room) (l .inv) (t .loop-test .taken) (r .wide) _ _ _ _ refl refl refl (c .before .before .row .ensures)
+    let e = t .before .before .before .before .clear-entering .ensures in
+    let done = cleared-finished (a .coefs .now) (a .ends .now) (s .pre .1 .0) (a .table .now) _ (a .count) (a .edges .now) e (s .pre .1 .1) in
+    let r = ready (a .coefs .now) (a .ends .now) (a .rests .now) (s .pre .0) (s .pre .1 .0) _ (a .count) (a .edges .now) done in
+    turn-next (a .coefs .now) (a .ends .now) (a .rests .now) _ (a .edges .now) (a .count) (l .table) (l .edges) (l .first) (l .k)
+    (r .countable .room) (l .inv) (t .loop-test .taken) (r .wide) _ _ _ _ _ refl refl refl
+    (row-in _ (a .count) (r .countable .room) _ _ _ _ _)
+    (c .before .before .before .before .row .ensures .1) (c .before .before .before .before .row .ensures .0)
 
 same-length : tie.Need-same-length Inv-loop μ-loop
-same-length c = c .before .loop .inv .long
+same-length c = c .before .loop .inv .long ∙ c .before .before .before .before .clear-entering .kept .0
 
 same-length-2 : tie.Need-same-length-2 Inv-loop μ-loop
 same-length-2 c = c .before .loop .inv .wide
 
 returns : tie.Need-returns Inv-loop μ-loop
 returns c =
-    let s = c .before .before .before .before .before .before .before in
+    let s = c .before .before .before .before .before .before .before .before .before .before .before in
     let a = s .args in
     let l = c .before .loop in
-    let r = ready (a .coefs .now) (a .ends .now) (a .rests .now) (s .pre .0) (s .pre .1 .0) (a .table .now) (a .count) (a .edges .now) (s .pre .1 .1) in
-    let e = turn-end (a .coefs .now) (a .ends .now) (a .rests .now) (a .table .now) (a .edges .now) (a .count) (l .table) (l .edges) (l .first) (l .k)
+    let e = c .before .before .before .before .clear-entering .ensures in
+    let done = cleared-finished (a .coefs .now) (a .ends .now) (s .pre .1 .0) (a .table .now) _ (a .count) (a .edges .now) e (s .pre .1 .1) in
+    let r = ready (a .coefs .now) (a .ends .now) (a .rests .now) (s .pre .0) (s .pre .1 .0) _ (a .count) (a .edges .now) done in
+    let end = turn-end (a .coefs .now) (a .ends .now) (a .rests .now) _ (a .edges .now) (a .count) (l .table) (l .edges) (l .first) (l .k)
     (r .countable .room) (l .inv) (c .loop-test .left) in
-    λ b done. linked (a .coefs .now) (a .ends .now) (a .rests .now) (s .pre .0) b (a .table .now) (a .count) (a .edges .now) done (l .table) (l .edges) e
+    λ b f. cleared-linked (a .coefs .now) (a .ends .now) b (a .table .now) _ (a .count) (a .edges .now) e (l .table) (l .edges)
+    (linked (a .coefs .now) (a .ends .now) (a .rests .now) (s .pre .0) b _ (a .count) (a .edges .now)
+    (cleared-finished (a .coefs .now) (a .ends .now) b (a .table .now) _ (a .count) (a .edges .now) e f) (l .table) (l .edges) end)
 
 pub link-spec : {M : Type 1} → statement M
 link-spec =
@@ -141,6 +160,7 @@ link-spec =
     (tie.spec
     Inv-loop
     μ-loop
+    clear-entering-requires
     loop-holds
     mul-b
     mul-i

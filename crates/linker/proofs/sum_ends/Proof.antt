@@ -5,7 +5,7 @@ use Prim.Native.Nat.{_≤_, _+_, _*_, _-_}
 use native.Mathlib.Omega.{arith}
 use mathlib.Core.Path.{_≡_}
 use lib.ListN.{drop}
-use Rattle.word.specs.Record.{used}
+use Rattle.word.specs.Record.{labelled}
 use Rattle.diagram.specs.Constraint.{lastEnd}
 use Rattle.linker.specs.Sum.{endSum}
 use Rattle.linker.proofs.Turns.{one-end, sum-turn, sum-end}
@@ -13,7 +13,7 @@ use Rattle.linker.proofs.sum_ends.Statement.{statement}
 use Rattle.linker.proofs.sum_ends.Tie as tie
 
 abbrev Inv-loop : tie.InvT-loop
-Inv-loop ends table count sum₀ k₀ sum k = (k ≤ count) × (sum ≤ lastEnd * k) × (sum + endSum ends (drop k (used table count)) ≡ endSum ends (used table count))
+Inv-loop ends table count sum₀ k₀ sum k = (k ≤ count) × (sum ≤ lastEnd * k) × (sum + endSum ends (drop k (labelled table count)) ≡ endSum ends (labelled table count))
 
 abbrev μ-loop : tie.MeasureT-loop
 μ-loop ends table count sum₀ k₀ sum k = count - k

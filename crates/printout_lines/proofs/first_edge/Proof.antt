@@ -1,4 +1,4 @@
--- `printout_lines::first_edge` meets its contract: the last word of a record, or the number of edges. Assumes nothing.
+-- `printout_lines::first_edge` meets its contract: the first place of a record, or the number of edges. Assumes nothing.
 use Prim.Native.Nat.{_+_, _*_}
 use native.Mathlib.Omega.{arith}
 use Rattle.word.specs.Record.{recordWords, firstWord}

@@ -21,11 +21,6 @@ abbrev μ-nodes : tie.MeasureT-nodes
 nodes-holds : tie.Need-nodes-holds Inv-nodes μ-nodes
 nodes-holds c = λ ns l. left-all _ _ _ _ refl
 
-mul-b : tie.Need-mul-b Inv-nodes μ-nodes
-mul-b c =
-    let turn = c .before in
-    omega (arith, turn .before .before .before .before .pre .1 .room)
-
 add-next : tie.Need-add-next Inv-nodes μ-nodes
 add-next c =
     let turn = c .before in
@@ -41,51 +36,11 @@ first-edge-requires-2 c κs =
     let turn = c .before .before in
     (omega arith, turn .before .before .before .before .pre .1 .room)
 
-mul-put-node : tie.Need-mul-put-node Inv-nodes μ-nodes
-mul-put-node c =
-    let turn = c .before .before .before .before in
-    omega (arith, turn .before .before .before .before .pre .1 .room)
-
-shared-slice-read-put-node : tie.Need-shared-slice-read-put-node Inv-nodes μ-nodes
-shared-slice-read-put-node c =
-    let turn = c .before .before .before .before .before in
-    omega (arith, turn .before .before .before .before .pre .1 .room)
-
-add-put-node : tie.Need-add-put-node Inv-nodes μ-nodes
-add-put-node c =
-    let turn = c .before .before .before .before .before in
-    omega (arith, turn .before .before .before .before .pre .1 .room)
-
-mul-put-node-2 : tie.Need-mul-put-node-2 Inv-nodes μ-nodes
-mul-put-node-2 c =
-    let turn = c .before .before .before .before .before in
-    omega (arith, turn .before .before .before .before .pre .1 .room)
-
-shared-slice-read-put-node-2 : tie.Need-shared-slice-read-put-node-2 Inv-nodes μ-nodes
-shared-slice-read-put-node-2 c =
-    let turn = c .before .before .before .before .before .before in
-    omega (arith, turn .before .before .before .before .pre .1 .room)
-
-add-put-node-2 : tie.Need-add-put-node-2 Inv-nodes μ-nodes
-add-put-node-2 c =
-    let turn = c .before .before .before .before .before .before in
-    omega (arith, turn .before .before .before .before .pre .1 .room)
-
-mul-put-node-3 : tie.Need-mul-put-node-3 Inv-nodes μ-nodes
-mul-put-node-3 c =
-    let turn = c .before .before .before .before .before .before in
-    omega (arith, turn .before .before .before .before .pre .1 .room)
-
-shared-slice-read-put-node-3 : tie.Need-shared-slice-read-put-node-3 Inv-nodes μ-nodes
-shared-slice-read-put-node-3 c =
-    let turn = c .before .before .before .before .before .before .before in
-    omega (arith, turn .before .before .before .before .pre .1 .room)
-
 sub-put-node : tie.Need-sub-put-node Inv-nodes μ-nodes
 sub-put-node c =
-    let turn = c .before .before .before .before .before .before .before in
+    let turn = c .before .before .before .before in
     let l = turn .before .before .before .before .pre .1 in
-    let w = places l (turn .nodes .node) _ _ (omega arith) (c .before .before .before .before .before .first-edge .ensures _ _ l) (c .before .before .before .before .first-edge2 .ensures _ _ l) in
+    let w = places l (turn .nodes .node) _ _ (omega arith) (c .before .before .first-edge .ensures _ _ l) (c .before .first-edge2 .ensures _ _ l) in
     w .0
 
 part-put-node-start : tie.Need-part-put-node-start Inv-nodes μ-nodes
@@ -93,25 +48,27 @@ part-put-node-start c = sub-put-node c
 
 part-put-node-end : tie.Need-part-put-node-end Inv-nodes μ-nodes
 part-put-node-end c =
-    let turn = c .before .before .before .before .before .before .before in
+    let turn = c .before .before .before .before in
     let l = turn .before .before .before .before .pre .1 in
-    let w = places l (turn .nodes .node) _ _ (omega arith) (c .before .before .before .before .before .first-edge .ensures _ _ l) (c .before .before .before .before .first-edge2 .ensures _ _ l) in
+    let w = places l (turn .nodes .node) _ _ (omega arith) (c .before .before .first-edge .ensures _ _ l) (c .before .first-edge2 .ensures _ _ l) in
     w .1
 
-mul-put-node-4 : tie.Need-mul-put-node-4 Inv-nodes μ-nodes
-mul-put-node-4 c = omega (arith, sub-put-node c, part-put-node-end c)
+mul-put-node : tie.Need-mul-put-node Inv-nodes μ-nodes
+mul-put-node c = omega (arith, sub-put-node c, part-put-node-end c)
 
 put-node-requires : tie.Need-put-node-requires Inv-nodes μ-nodes
-put-node-requires c κs = search needs
+put-node-requires c κs =
+    let turn = c .before .before .before .before .before in
+    omega (arith, turn .before .before .before .before .pre .1 .room)
 
 nodes-less : tie.Need-nodes-less Inv-nodes μ-nodes
 nodes-less c = search needs
 
 nodes-again : tie.Need-nodes-again Inv-nodes μ-nodes
 nodes-again c =
-    let turn = c .before .before .before .before .before .before .before .before .before .before .before in
+    let turn = c .before .before .before .before .before .before .before .before in
     λ ns l.
-    left-less (lines-turn l (turn .nodes .node) _ _ (omega arith) (c .before .before .before .before .before .before .before .before .before .first-edge .ensures ns _ l) (c .before .before .before .before .before .before .before .before .first-edge2 .ensures ns _ l)) (turn .nodes .inv ns l)
+    left-less (lines-turn l (turn .nodes .node) _ _ (omega arith) (c .before .before .before .before .before .before .first-edge .ensures ns _ l) (c .before .before .before .before .before .first-edge2 .ensures ns _ l)) (turn .nodes .inv ns l)
     (c .before .before .put-node .ensures)
 
 same-length : tie.Need-same-length Inv-nodes μ-nodes
@@ -132,19 +89,10 @@ put-nodes-spec =
     Inv-nodes
     μ-nodes
     nodes-holds
-    mul-b
     add-next
     first-edge-requires
     first-edge-requires-2
     mul-put-node
-    shared-slice-read-put-node
-    add-put-node
-    mul-put-node-2
-    shared-slice-read-put-node-2
-    add-put-node-2
-    mul-put-node-3
-    shared-slice-read-put-node-3
-    mul-put-node-4
     sub-put-node
     part-put-node-start
     part-put-node-end

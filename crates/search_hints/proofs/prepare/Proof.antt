@@ -70,7 +70,7 @@ loop-less : tie.Need-loop-less Inv-loop μ-loop
 loop-less c = search needs
 
 loop-again : tie.Need-loop-again Inv-loop μ-loop
-loop-again c = let l = c .before .before .before .before .before .before .before .before .loop in (c .before .before .prepare-level .kept .0 ∙ length-set (l .work) 2048 (l .i + 1) ∙ l .inv .0, omega arith)
+loop-again c = let l = c .before .before .before .before .before .before .before .before .loop in (c .before .before .prepare-level .kept .0 ∙ length-set (l .work) _ (l .i + 1) ∙ l .inv .0, omega arith)
 
 same-length-3 : tie.Need-same-length-3 Inv-loop μ-loop
 same-length-3 c = search needs

@@ -4,20 +4,20 @@ use borrow.Author.Needs.{needs}
 use Prim.Native.Nat.{ℕ, _+_, _-_, _/_, _≤_, _<_}
 use native.Mathlib.Omega.{arith}
 use mathlib.Core.Path.{sym}
-use Rattle.word.specs.Record.{used}
-use Rattle.word.proofs.Flat.{used-length}
+use Rattle.word.specs.Record.{labelled}
+use Rattle.word.proofs.Labels.{labelled-length}
 use Rattle.search_ordered.proofs.Search.{Bracket, bracket-start, bracket-up, bracket-down, bracket-met, words-below}
 use Rattle.search_ordered.proofs.gap_any.Statement.{statement}
 use Rattle.search_ordered.proofs.gap_any.Tie as tie
 
 abbrev Inv-loop : tie.InvT-loop
-Inv-loop table count level r lo₀ hi₀ lo hi = Bracket (used table count) level (r .0) lo hi × (hi ≤ count)
+Inv-loop table count level r lo₀ hi₀ lo hi = Bracket (labelled table count) level (r .0) lo hi × (hi ≤ count)
 
 abbrev μ-loop : tie.MeasureT-loop
 μ-loop table count level r lo₀ hi₀ lo hi = hi - lo
 
 loop-holds : tie.Need-loop-holds Inv-loop μ-loop
-loop-holds c = (bracket-start _ _ _ _ (sym (used-length _ _ (c .before .pre .0))), search needs)
+loop-holds c = (bracket-start _ _ _ _ (sym (labelled-length _ _ (c .before .pre .0))), search needs)
 
 sub-mid : tie.Need-sub-mid Inv-loop μ-loop
 sub-mid c = omega arith

@@ -4,7 +4,7 @@ use mathlib.Core.Bool.{true≢false}
 use native.Mathlib.Omega.{arith}
 use borrow.Author.Needs.{needs}
 use borrow.Author.Tests.{not-true, not-false}
-use Rattle.word.proofs.Flat.{used-length}
+use Rattle.word.proofs.Labels.{labelled-length}
 use Rattle.search_ordered.proofs.Search.{bracket-from, bracket-down, bracket-met, words-below}
 use Rattle.search_ordered.proofs.gap_is.Statement.{statement}
 use Rattle.search_ordered.proofs.gap_is.Tie as tie
@@ -19,7 +19,7 @@ returns-2 : tie.Need-returns-2
 returns-2 c e =
     let a = c .before .before .before .before in
     let first = sym (c .before .before .last-below .ensures) ∙ not-false (c .before .before .last-below .result) (c .before .if1 .left) in
-    bracket-met _ (a .pre .1) _ _ (search needs) _ _ (bracket-from _ (a .pre .1) _ _ _ _ (sym (used-length _ _ (a .pre .0))) first) (c .if2 .taken)
+    bracket-met _ (a .pre .1) _ _ (search needs) _ _ (bracket-from _ (a .pre .1) _ _ _ _ (sym (labelled-length _ _ (a .pre .0))) first) (c .if2 .taken)
 
 mul-b : tie.Need-mul-b
 mul-b c = search needs
@@ -47,7 +47,7 @@ returns-3 c e =
     let a = c .before .before .before .before .before .before .before in
     let first = sym (c .before .before .before .before .before .last-below .ensures) ∙ not-false (c .before .before .before .before .before .last-below .result) (c .before .before .before .before .if1 .left) in
     let test = words-below _ _ (a .pre .0) (a .args .n) (omega arith) _ _ _ _ (not-true (c .below .result) e) (c .below .ensures) in
-    bracket-met _ (a .pre .1) _ _ (search needs) _ _ (bracket-down _ (a .pre .1) _ _ (a .args .n) (a .args .count) (a .args .n) (bracket-from _ (a .pre .1) _ _ _ _ (sym (used-length _ _ (a .pre .0))) first) (omega arith) (omega arith) test) (omega arith)
+    bracket-met _ (a .pre .1) _ _ (search needs) _ _ (bracket-down _ (a .pre .1) _ _ (a .args .n) (a .args .count) (a .args .n) (bracket-from _ (a .pre .1) _ _ _ _ (sym (labelled-length _ _ (a .pre .0))) first) (omega arith) (omega arith) test) (omega arith)
 
 pub gap-is-spec : {M : Type 1} → statement M
 gap-is-spec =

@@ -4,14 +4,14 @@ use native.Mathlib.Omega.{arith}
 use Prim.Native.Nat.{ℕ, _+_, _-_, _/_, _≤_}
 use mathlib.Core.Path.{_≡_, refl, sym, subst}
 use borrow.Author.Needs.{needs}
-use Rattle.word.specs.Record.{used}
-use Rattle.word.proofs.Flat.{used-length}
+use Rattle.word.specs.Record.{labelled}
+use Rattle.word.proofs.Labels.{labelled-length}
 use Rattle.search_ordered.proofs.Search.{Bracket, bracket-start, bracket-half, bracket-met, bit-times, words-low, words-upper, words-bit}
 use Rattle.search_ordered.proofs.gap_low.Statement.{statement}
 use Rattle.search_ordered.proofs.gap_low.Tie as tie
 
 abbrev Inv-loop : tie.InvT-loop
-Inv-loop table count level r p₀ left₀ p left = Bracket (used table count) level (r .0) p (p + left) × (p + left ≤ count)
+Inv-loop table count level r p₀ left₀ p left = Bracket (labelled table count) level (r .0) p (p + left) × (p + left ≤ count)
 
 abbrev μ-loop : tie.MeasureT-loop
 μ-loop table count level r p₀ left₀ p left = left
@@ -21,8 +21,8 @@ loop-holds c =
     let s = c .before in
     let n = s .args .count in
     let z : 0 + n ≡ n = omega arith in
-    let xs = used (s .args .table .now) n in
-    (subst (Bracket xs (s .args .level) (s .args .r .0) 0) (sym z) (bracket-start xs (s .args .level) (s .args .r .0) n (sym (used-length (s .args .table .now) n (s .pre .0)))), omega arith)
+    let xs = labelled (s .args .table .now) n in
+    (subst (Bracket xs (s .args .level) (s .args .r .0) 0) (sym z) (bracket-start xs (s .args .level) (s .args .r .0) n (sym (labelled-length (s .args .table .now) n (s .pre .0)))), omega arith)
 
 sub-half : tie.Need-sub-half Inv-loop μ-loop
 sub-half c = omega arith

@@ -4,8 +4,8 @@ use lib.ListN.{length}
 use borrow.Author.Tests.{lt-ltb, le-ltb}
 use native.Mathlib.Omega.{arith}
 use borrow.Author.Needs.{needs}
-use Rattle.word.specs.Record.{used}
-use Rattle.word.proofs.Flat.{used-length, used-at}
+use Rattle.word.specs.Record.{labelled}
+use Rattle.word.proofs.Labels.{labelled-length, labelled-at}
 use Rattle.search_ordered.proofs.hit.Statement.{statement}
 use Rattle.search_ordered.proofs.hit.Tie as tie
 
@@ -42,14 +42,14 @@ holds-requires c κs = search needs
 returns : tie.Need-returns
 returns c =
     let a = c .before .before .before .before .before .before .before .before in
-    let n = used-length (a .args .table .now) (a .args .count) (a .pre) in
-    rw (lt-ltb (a .args .p .0) (length (used (a .args .table .now) (a .args .count))) (omega arith), used-at (a .args .table .now) (a .args .count) (a .pre) (a .args .p .0) (omega arith)) (c .holds .ensures)
+    let n = labelled-length (a .args .table .now) (a .args .count) (a .pre) in
+    rw (lt-ltb (a .args .p .0) (length (labelled (a .args .table .now) (a .args .count))) (omega arith), labelled-at (a .args .table .now) (a .args .count) (a .pre) (a .args .p .0) (omega arith)) (c .holds .ensures)
 
 returns-2 : tie.Need-returns-2
 returns-2 c =
     let a = c .before .before .before in
-    let n = used-length (a .args .table .now) (a .args .count) (a .pre) in
-    rw (le-ltb (a .args .p .0) (length (used (a .args .table .now) (a .args .count))) (omega arith)) refl
+    let n = labelled-length (a .args .table .now) (a .args .count) (a .pre) in
+    rw (le-ltb (a .args .p .0) (length (labelled (a .args .table .now) (a .args .count))) (omega arith)) refl
 
 pub hit-spec : {M : Type 1} → statement M
 hit-spec =

@@ -4,7 +4,7 @@ use borrow.Author.Tests.{ne-eqb, eq-eqb, le-leb, lt-leb}
 use Prim.Native.Nat.{_-_, _≤_}
 use native.Mathlib.Omega.{arith}
 use mathlib.Core.Path.{refl, sym}
-use Rattle.word.proofs.Flat.{used-length}
+use Rattle.word.proofs.Labels.{labelled-length}
 use Rattle.search_ordered.proofs.Search.{words-below}
 use Rattle.search_ordered.proofs.last_below.Statement.{statement}
 use Rattle.search_ordered.proofs.last_below.Tie as tie
@@ -15,7 +15,7 @@ returns c = simp (eq-eqb _ _ (c .if1 .taken))
 returns-2 : tie.Need-returns-2
 returns-2 c =
     let a = c .before .before .before in
-    simp (ne-eqb _ _ (c .before .if1 .left), used-length (a .args .table .now) (a .args .count) (a .pre), lt-leb _ _ (c .if2 .taken))
+    simp (ne-eqb _ _ (c .before .if1 .left), labelled-length (a .args .table .now) (a .args .count) (a .pre), lt-leb _ _ (c .if2 .taken))
 
 sub-b : tie.Need-sub-b
 sub-b c = search needs
@@ -46,7 +46,7 @@ returns-3 c =
     let a = c .before .before .before .before .before .before in
     let inside : a .args .n ≤ a .args .count = omega arith in
     let test = words-below _ _ (a .pre) (a .args .n - 1) (omega arith) _ _ _ _ refl (c .below .ensures) in
-    simp (ne-eqb _ _ (c .before .before .before .before .if1 .left), used-length (a .args .table .now) (a .args .count) (a .pre), le-leb _ _ inside) (sym test)
+    simp (ne-eqb _ _ (c .before .before .before .before .if1 .left), labelled-length (a .args .table .now) (a .args .count) (a .pre), le-leb _ _ inside) (sym test)
 
 pub last-below-spec : {M : Type 1} → statement M
 last-below-spec =

@@ -5,7 +5,7 @@ use Prim.Native.Nat.{_-_}
 use native.Mathlib.Omega.{arith}
 use borrow.Author.Needs.{needs}
 use borrow.Author.Tests.{ltb-true}
-use Rattle.word.proofs.Flat.{used-length, used-at}
+use Rattle.word.proofs.Labels.{labelled-length, labelled-at}
 use Rattle.search_ordered.proofs.Search.{low-last}
 use Rattle.search_ordered.proofs.low.Statement.{statement}
 use Rattle.search_ordered.proofs.low.Tie as tie
@@ -14,7 +14,7 @@ returns : tie.Need-returns
 returns c e = absurd (true≢false (sym e))
 
 returns-2 : tie.Need-returns-2
-returns-2 c e = let s = c .before .before in (λ k h. absurd (omega (arith, c .if2 .taken, used-length (s .args .table .now) (s .args .count) (s .pre .0))), omega (arith, c .before .if1 .left))
+returns-2 c e = let s = c .before .before in (λ k h. absurd (omega (arith, c .if2 .taken, labelled-length (s .args .table .now) (s .args .count) (s .pre .0))), omega (arith, c .before .if1 .left))
 
 sub-result : tie.Need-sub-result
 sub-result c = search needs
@@ -33,8 +33,8 @@ returns-3 c e =
     let s = c .before .before .before in
     let some = c .before .if2 .left in
     let room = s .pre .0 in
-    let n = used-length (s .args .table .now) (s .args .count) room in
-    (low-last _ (s .pre .1) (s .args .count - 1) (omega arith) (rw (used-at (s .args .table .now) (s .args .count) room (s .args .count - 1) (omega arith)) (ltb-true _ _ e)), omega (arith, c .before .before .if1 .left))
+    let n = labelled-length (s .args .table .now) (s .args .count) room in
+    (low-last _ (s .pre .1) (s .args .count - 1) (omega arith) (rw (labelled-at (s .args .table .now) (s .args .count) room (s .args .count - 1) (omega arith)) (ltb-true _ _ e)), omega (arith, c .before .before .if1 .left))
 
 pub low-spec : {M : Type 1} → statement M
 low-spec =

@@ -7,8 +7,8 @@ use lib.Seq.{length-take-le}
 use borrow.Author.Needs.{needs}
 use Rattle.finder.specs.declared.Found.the-variants.{At, Nothing}
 use Rattle.finder.specs.Find.{findIn}
-use Rattle.word.specs.Record.{used, recordWords}
-use Rattle.word.proofs.Flat.{used-length}
+use Rattle.word.specs.Record.{labelled, recordWords}
+use Rattle.word.proofs.Labels.{labelled-length}
 use Rattle.finder.proofs.Gap.{gap-most}
 use Rattle.finder.proofs.Says.{find-says, nothing-gap}
 use Rattle.search_runs.specs.Runs.{secondRun}
@@ -83,10 +83,10 @@ add-gap c =
     let n = s .args .count in
     let level = s .args .level in
     let r = s .args .r .0 in
-    let a = nothing-gap (used t m) level r (c .before .before .before .before .before .before .first .given .0 .0) (sym (c .before .before .before .before .before .before .before .before .find-near .ensures) ∙ c .before .before .before .before .before .before .first .given .1) in
+    let a = nothing-gap (labelled t m) level r (c .before .before .before .before .before .before .first .given .0 .0) (sym (c .before .before .before .before .before .before .before .before .find-near .ensures) ∙ c .before .before .before .before .before .before .first .given .1) in
     let b = nothing-gap (secondRun t m n) level r (c .before .second .given .0 .0) (sym (rw (run-words t m n (s .pre .0)) at (c .before .before .before .find-sorted .ensures)) ∙ c .before .second .given .1) in
     let mid = s .pre .0 in
-    omega (arith, a, b, gap-most (used t m) level r, gap-most (secondRun t m n) level r, used-length t m (omega (arith, s .pre .1)), run-length t m n mid (s .pre .1))
+    omega (arith, a, b, gap-most (labelled t m) level r, gap-most (secondRun t m n) level r, labelled-length t m (omega (arith, s .pre .1)), run-length t m n mid (s .pre .1))
 
 returns : tie.Need-returns
 returns c =

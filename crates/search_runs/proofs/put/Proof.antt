@@ -4,8 +4,8 @@ use mathlib.Core.Path.{sym, _∙_}
 use native.Mathlib.Omega.{arith}
 use lib.ListN.{length, take, drop}
 use borrow.Author.Needs.{needs}
-use Rattle.word.specs.Record.{used, recordWords}
-use Rattle.word.proofs.Flat.{used-length}
+use Rattle.word.specs.Record.{labelled, recordWords}
+use Rattle.word.proofs.Labels.{labelled-length}
 use Rattle.finder.proofs.Gap.{gap-most}
 use Rattle.finder.proofs.Says.{nothing-gap, missing-nothing, not-both}
 use Rattle.search_runs.specs.Runs.{secondRun}
@@ -76,8 +76,8 @@ insert-requires c κs =
     let n = s .args .count - m in
     let tail = take (length t - m * recordWords) (drop (m * recordWords) t) in
     let long = tail-length t m (s .args .count) (s .pre .0) (s .pre .1) in
-    let gap = nothing-gap (used tail n) (s .args .level) (s .args .r .0) (c .before .before .gap .given .0 .0) (sym (c .before .before .before .before .find-near .ensures) ∙ c .before .before .gap .given .1) in
-    (omega (arith, gap, gap-most (used tail n) (s .args .level) (s .args .r .0), used-length tail n (omega arith)), omega arith)
+    let gap = nothing-gap (labelled tail n) (s .args .level) (s .args .r .0) (c .before .before .gap .given .0 .0) (sym (c .before .before .before .before .find-near .ensures) ∙ c .before .before .gap .given .1) in
+    (omega (arith, gap, gap-most (labelled tail n) (s .args .level) (s .args .r .0), labelled-length tail n (omega arith)), omega arith)
 
 same-length-2 : tie.Need-same-length-2
 same-length-2 c = search needs
@@ -90,7 +90,7 @@ returns-2 c =
     let tail = take (length t - m * recordWords) (drop (m * recordWords) t) in
     put-second t m (s .args .count) (s .pre .0) (s .pre .1) (s .args .level) (s .args .r .0) (s .args .lower) (s .args .upper)
     (c .before .before .before .before .before .gap .given .0 .0) (c .before .before .insert .last .0)
-    (nothing-gap (used tail (s .args .count - m)) (s .args .level) (s .args .r .0) (c .before .before .before .before .before .gap .given .0 .0) (sym (c .before .before .before .before .before .before .before .find-near .ensures) ∙ c .before .before .before .before .before .gap .given .1))
+    (nothing-gap (labelled tail (s .args .count - m)) (s .args .level) (s .args .r .0) (c .before .before .before .before .before .gap .given .0 .0) (sym (c .before .before .before .before .before .before .before .find-near .ensures) ∙ c .before .before .before .before .before .gap .given .1))
     (c .before .before .insert .ensures .0) (c .before .before .insert .ensures .1) (c .before .before .insert .kept .0)
 
 pub put-spec : {M : Type 1} → statement M

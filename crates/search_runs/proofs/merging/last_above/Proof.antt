@@ -5,14 +5,14 @@ use native.Mathlib.Omega.{arith}
 use borrow.Author.Needs.{needs}
 use borrow.Author.Tests.{lt-ltb}
 use lib.Dec.{ltb}
-use Rattle.word.specs.Record.{records}
+use Rattle.word.specs.Record.{labels}
 use Rattle.search_runs.specs.Merging.{lastAbove}
 use Rattle.search_store.proofs.Stored.{words-at}
 use Rattle.search_runs.proofs.merging.last_above.Statement.{statement}
 use Rattle.search_runs.proofs.merging.last_above.Tie as tie
 
 returns : tie.Need-returns
-returns c = let a = c .before .before in sym (ap (λ (n : ℕ). lastAbove (records (a .args .table .now)) n (a .args .k)) (c .if1 .taken))
+returns c = let a = c .before .before in sym (ap (λ (n : ℕ). lastAbove (labels (a .args .table .now)) n (a .args .k)) (c .if1 .taken))
 
 sub-b : tie.Need-sub-b
 sub-b c = search needs

@@ -6,7 +6,7 @@ use mathlib.Core.List.{List}
 use native.Mathlib.Omega.{arith}
 use lib.ListN.{length}
 use borrow.Author.Needs.{needs}
-use Rattle.word.specs.Record.{records}
+use Rattle.word.specs.Record.{labels}
 use Rattle.search_runs.proofs.Turns.{Inv, inv-start, inv-end, above-some, turn-main, turn-pending}
 use Rattle.search_runs.proofs.merging.merge_back.Statement.{statement}
 use Rattle.search_runs.proofs.merging.merge_back.Tie as tie
@@ -60,13 +60,13 @@ last-above-requires : tie.Need-last-above-requires Inv-loop2 μ-loop2 Inv-loop �
 last-above-requires c κs = search needs
 
 sub-i : tie.Need-sub-i Inv-loop2 μ-loop2 Inv-loop μ-loop
-sub-i c = let n = c .before .before .before .loop2 in above-some (records (n .table)) (n .i) (c .before .before .before .before .key-of .result) (sym (c .before .last-above .ensures) ∙ c .if1 .taken)
+sub-i c = let n = c .before .before .before .loop2 in above-some (labels (n .table)) (n .i) (c .before .before .before .before .key-of .result) (sym (c .before .last-above .ensures) ∙ c .if1 .taken)
 
 add-to : tie.Need-add-to Inv-loop2 μ-loop2 Inv-loop μ-loop
 add-to c = search needs
 
-move-record-requires : tie.Need-move-record-requires Inv-loop2 μ-loop2 Inv-loop μ-loop
-move-record-requires c κs = omega (arith, sub-i (c .before))
+move-label-requires : tie.Need-move-label-requires Inv-loop2 μ-loop2 Inv-loop μ-loop
+move-label-requires c κs = omega (arith, sub-i (c .before))
 
 loop2-less : tie.Need-loop2-less Inv-loop2 μ-loop2 Inv-loop μ-loop
 loop2-less c = omega (arith, sub-i (c .before .before .before .before))
@@ -78,7 +78,7 @@ loop2-again c =
     let n = c .before .before .before .before .before .before .before .loop2 in
     let key = c .before .before .before .before .before .before .before .before .key-of in
     let test = c .before .before .before .before .before .last-above in
-    let moved = c .before .before .move-record in (
+    let moved = c .before .before .move-label in (
       omega (arith, n .inv .0),
       moved .kept .0 ∙ n .inv .1,
       λ t₀ h. turn-main t₀ (a .args .s .now) (a .args .main) (a .args .count) (a .pre .0) (omega (arith, h .3, l .inv .3)) (a .pre .2) (n .table) (n .i) (l .j) (key .result)
@@ -91,8 +91,8 @@ sub-j-2 c = search needs
 add-to-2 : tie.Need-add-to-2 Inv-loop2 μ-loop2 Inv-loop μ-loop
 add-to-2 c = search needs
 
-copy-record-requires : tie.Need-copy-record-requires Inv-loop2 μ-loop2 Inv-loop μ-loop
-copy-record-requires c κs = search needs
+copy-label-requires : tie.Need-copy-label-requires Inv-loop2 μ-loop2 Inv-loop μ-loop
+copy-label-requires c κs = search needs
 
 loop-less : tie.Need-loop-less Inv-loop2 μ-loop2 Inv-loop μ-loop
 loop-less c = search needs
@@ -104,7 +104,7 @@ loop-again c =
     let n = c .before .before .before .before .before .before .before .loop2 in
     let key = c .before .before .before .before .before .before .before .before .key-of in
     let test = c .before .before .before .before .before .last-above in
-    let copied = c .before .before .copy-record in
+    let copied = c .before .before .copy-label in
     turn-pending (a .args .table .now) (a .args .s .now) (a .args .main) (a .args .count) (a .pre .0) (a .pre .1) (a .pre .2) (n .table) (n .i) (l .j) (key .result)
     (n .inv .2 (a .args .table .now) (l .inv)) (omega arith) (key .ensures) (copied .last .0) (sym (test .ensures) ∙ c .before .before .before .before .if1 .left) (copied .ensures)
 
@@ -139,12 +139,12 @@ merge-back-spec =
     last-above-requires
     sub-i
     add-to
-    move-record-requires
+    move-label-requires
     loop2-less
     loop2-again
     sub-j-2
     add-to-2
-    copy-record-requires
+    copy-label-requires
     loop-less
     loop-again
     same-length

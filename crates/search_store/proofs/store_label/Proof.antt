@@ -1,11 +1,10 @@
--- `search_store::store_record` meets its contract, by the law of a record's stores. Assumes nothing.
+-- `search_store::store_label` meets its contract, by the law of a label's stores. Assumes nothing.
+use borrow.Author.Needs.{needs}
 use native.Mathlib.Omega.{arith}
 use lib.ListN.{length-set}
-use borrow.Author.Needs.{needs}
-use Rattle.word.specs.Record.{recordFrom}
-use Rattle.word.proofs.Flat.{stored}
-use Rattle.search_store.proofs.store_record.Statement.{statement}
-use Rattle.search_store.proofs.store_record.Tie as tie
+use Rattle.search_store.proofs.Stored.{label-stored}
+use Rattle.search_store.proofs.store_label.Statement.{statement}
+use Rattle.search_store.proofs.store_label.Tie as tie
 
 mul-b : tie.Need-mul-b
 mul-b c = search needs
@@ -34,23 +33,14 @@ mul-table-3 c = search needs
 slice-write-table-3 : tie.Need-slice-write-table-3
 slice-write-table-3 c = simp length-set (omega arith)
 
-add-table-3 : tie.Need-add-table-3
-add-table-3 c = search needs
-
-mul-table-4 : tie.Need-mul-table-4
-mul-table-4 c = search needs
-
-slice-write-table-4 : tie.Need-slice-write-table-4
-slice-write-table-4 c = simp length-set (omega arith)
-
 same-length : tie.Need-same-length
 same-length c = search needs
 
 returns : tie.Need-returns
-returns c = let a = c .before .args in stored (a .table .now) (a .k .0) (recordFrom (a .level) (a .lower) (a .upper) (a .first)) (c .before .pre)
+returns c = let a = c .before .args in label-stored (a .table .now) (a .k .0) (a .level) (a .lower) (a .upper) (c .before .pre)
 
-pub store-record-spec : {M : Type 1} → statement M
-store-record-spec =
+pub store-label-spec : {M : Type 1} → statement M
+store-label-spec =
     tie.close
     (tie.spec
     mul-b
@@ -62,8 +52,5 @@ store-record-spec =
     add-table-2
     mul-table-3
     slice-write-table-3
-    add-table-3
-    mul-table-4
-    slice-write-table-4
     same-length
     returns)
