@@ -22,33 +22,33 @@ use Rattle.clause.proofs.Written.{LiteralsFit, Fit, literal-word, word-
 
 -- ---- What is written passes
 
-literal-passes : (w at k : ℕ) (ws : List ℕ) → kind w ≡ 2 → 1 ≤ boolean w → boolean w ≤ lastBoolean
-    → listFrom lastBoolean at k (w ∷ ws) ≡ listFrom lastBoolean (suc at) (suc k) ws
-unfolding listFrom
-literal-passes w at k ws e p q = rw (ne-eqb (kind w) 3 (λ f. omega arith), eq-eqb (kind w) 2 e, le-leb 1 (boolean w) p, le-leb (boolean w) lastBoolean q)
+-- a list over the Booleans from 1 to m, where those up to n may occur
+module _ (m n : ℕ) (fits : m ≤ lastBoolean) (allowed : m ≤ n) where
+  literal-passes : (w at k : ℕ) (ws : List ℕ) → kind w ≡ 2 → 1 ≤ boolean w → boolean w ≤ n → listFrom n at k (w ∷ ws) ≡ listFrom n (suc at) (suc k) ws
+  unfolding listFrom
+  literal-passes w at k ws e p q = rw (ne-eqb (kind w) 3 (λ f. omega arith), eq-eqb (kind w) 2 e, le-leb 1 (boolean w) p, le-leb (boolean w) n q)
 
-end-passes : (w at k : ℕ) (ws : List ℕ) → kind w ≡ 3 → payload w ≡ k → listFrom lastBoolean at k (w ∷ ws) ≡ listFrom lastBoolean (suc at) 0 ws
-unfolding listFrom
-end-passes w at k ws e f = rw (eq-eqb (kind w) 3 e, eq-eqb (payload w) k f)
+  end-passes : (w at k : ℕ) (ws : List ℕ) → kind w ≡ 3 → payload w ≡ k → listFrom n at k (w ∷ ws) ≡ listFrom n (suc at) 0 ws
+  unfolding listFrom
+  end-passes w at k ws e f = rw (eq-eqb (kind w) 3 e, eq-eqb (payload w) k f)
 
-literals-pass : (c : Clause) (at k : ℕ) (ws : List ℕ) → LiteralsFit c
-    → listFrom lastBoolean at k (closed c ws) ≡ listFrom lastBoolean (at + length c) (k + length c) ws
-literals-pass [] at k ws h = ap₂ (λ (i j : ℕ). listFrom lastBoolean i j ws) (omega arith) (omega arith)
-literals-pass (l ∷ c) at k ws h =
-    let t = literal-word (l .says) (l .of) (h .0 .1) in
-    let b : boolean (wordOf l) ≡ l .of = ap (λ (x : Literal). x .of) (t .1) in
-    literal-passes (wordOf l) at k (closed c ws) (t .0) (omega (arith, h .0 .0)) (omega (arith, h .0 .1))
-    ∙ literals-pass c (suc at) (suc k) ws (h .1)
-    ∙ ap₂ (λ (i j : ℕ). listFrom lastBoolean i j ws) (omega arith) (omega arith)
+  literals-pass : (c : Clause) (at k : ℕ) (ws : List ℕ) → LiteralsFit m c → listFrom n at k (closed c ws) ≡ listFrom n (at + length c) (k + length c) ws
+  literals-pass [] at k ws h = ap₂ (λ (i j : ℕ). listFrom n i j ws) (omega arith) (omega arith)
+  literals-pass (l ∷ c) at k ws h =
+      let t = literal-word (l .says) (l .of) (omega (arith, h .0 .1)) in
+      let b : boolean (wordOf l) ≡ l .of = ap (λ (x : Literal). x .of) (t .1) in
+      literal-passes (wordOf l) at k (closed c ws) (t .0) (omega (arith, h .0 .0)) (omega (arith, h .0 .1))
+      ∙ literals-pass c (suc at) (suc k) ws (h .1)
+      ∙ ap₂ (λ (i j : ℕ). listFrom n i j ws) (omega arith) (omega arith)
 
-pub words-pass : (cs : List Clause) (at : ℕ) → Fit cs → listFrom lastBoolean at 0 (wordsOf cs) ≡ Passed
-unfolding listFrom
-words-pass [] at h = refl
-words-pass (c ∷ cs) at h =
-    let t = end-word (length c) (h .0 .1) in
-    literals-pass c at 0 (endWord (length c) ∷ wordsOf cs) (h .0 .0)
-    ∙ end-passes (endWord (length c)) (at + length c) (0 + length c) (wordsOf cs) (t .0) (omega (arith, t .1))
-    ∙ words-pass cs (suc (at + length c)) (h .1)
+  pub words-pass : (cs : List Clause) (at : ℕ) → Fit m cs → listFrom n at 0 (wordsOf cs) ≡ Passed
+  unfolding listFrom
+  words-pass [] at h = refl
+  words-pass (c ∷ cs) at h =
+      let t = end-word (length c) (h .0 .1) in
+      literals-pass c at 0 (endWord (length c) ∷ wordsOf cs) (h .0 .0)
+      ∙ end-passes (endWord (length c)) (at + length c) (0 + length c) (wordsOf cs) (t .0) (omega (arith, t .1))
+      ∙ words-pass cs (suc (at + length c)) (h .1)
 
 -- ---- What passes, word by word
 

@@ -9,18 +9,18 @@ use borrow.Author.Tests.{eq-eqb, ne-eqb, le-leb, lt-leb, leb-true, leb-false}
 use Rattle.word.specs.Word.{kind, payload, boolean, negated, lastBoolean, literalWord, lastCount, endWord}
 use Rattle.clause.specs.Meaning.{Clause, literalOf, joined, clausesOf, wordOf, closed, wordsOf}
 
--- every number fits: Booleans from 1 on of 29 bits, counts of 30
-abbrev pub LiteralsFit : Clause → Type 0
-LiteralsFit [] = Unit {0}
-LiteralsFit (l ∷ c) = ((1 ≤ l .of) × (l .of ≤ lastBoolean)) × LiteralsFit c
+-- every number fits: Booleans from 1 to m, counts of 30 bits
+abbrev pub LiteralsFit : ℕ → Clause → Type 0
+LiteralsFit m [] = Unit {0}
+LiteralsFit m (l ∷ c) = ((1 ≤ l .of) × (l .of ≤ m)) × LiteralsFit m c
 
-abbrev pub Fit : List Clause → Type 0
-Fit [] = Unit {0}
-Fit (c ∷ cs) = (LiteralsFit c × (length c ≤ lastCount)) × Fit cs
+abbrev pub Fit : ℕ → List Clause → Type 0
+Fit m [] = Unit {0}
+Fit m (c ∷ cs) = (LiteralsFit m c × (length c ≤ lastCount)) × Fit m cs
 
-pub fit-append : (cs ds : List Clause) → Fit cs → Fit ds → Fit (cs ++ ds)
-fit-append [] ds h k = k
-fit-append (c ∷ cs) ds h k = (h .0, fit-append cs ds (h .1) k)
+pub fit-append : (m : ℕ) (cs ds : List Clause) → Fit m cs → Fit m ds → Fit m (cs ++ ds)
+fit-append m [] ds h k = k
+fit-append m (c ∷ cs) ds h k = (h .0, fit-append m cs ds (h .1) k)
 
 -- ---- Words
 
@@ -61,22 +61,23 @@ read-literal w ws e = rw (ne-eqb (kind w) 3 (λ f. omega arith))
 
 -- ---- Clauses
 
-literals-read : (c d : Clause) (cs : List Clause) (ws : List ℕ) → LiteralsFit c → clausesOf ws ≡ d ∷ cs → clausesOf (closed c ws) ≡ (c ++ d) ∷ cs
-literals-read [] d cs ws h e = e
-literals-read (l ∷ c) d cs ws h e =
-    let t = literal-word (l .says) (l .of) (h .0 .1) in
-    read-literal (wordOf l) (closed c ws) (t .0) ∙ ap₂ joined (t .1) (literals-read c d cs ws (h .1) e)
+literals-read : (m : ℕ) → m ≤ lastBoolean → (c d : Clause) (cs : List Clause) (ws : List ℕ) → LiteralsFit m c → clausesOf ws ≡ d ∷ cs
+    → clausesOf (closed c ws) ≡ (c ++ d) ∷ cs
+literals-read m k [] d cs ws h e = e
+literals-read m k (l ∷ c) d cs ws h e =
+    let t = literal-word (l .says) (l .of) (omega (arith, h .0 .1)) in
+    read-literal (wordOf l) (closed c ws) (t .0) ∙ ap₂ joined (t .1) (literals-read m k c d cs ws (h .1) e)
 
 append-none : (c : Clause) → c ++ [] ≡ c
 append-none [] = refl
 append-none (l ∷ c) = ap (λ (x : Clause). l ∷ x) (append-none c)
 
-pub read-written : (cs : List Clause) → Fit cs → clausesOf (wordsOf cs) ≡ cs
+pub read-written : (m : ℕ) → m ≤ lastBoolean → (cs : List Clause) → Fit m cs → clausesOf (wordsOf cs) ≡ cs
 unfolding clausesOf
-read-written [] h = refl
-read-written (c ∷ cs) h =
-    literals-read c [] cs (endWord (length c) ∷ wordsOf cs) (h .0 .0)
-    (read-end (endWord (length c)) (wordsOf cs) (end-word (length c) (h .0 .1) .0) ∙ ap (λ (x : List Clause). [] ∷ x) (read-written cs (h .1)))
+read-written m k [] h = refl
+read-written m k (c ∷ cs) h =
+    literals-read m k c [] cs (endWord (length c) ∷ wordsOf cs) (h .0 .0)
+    (read-end (endWord (length c)) (wordsOf cs) (end-word (length c) (h .0 .1) .0) ∙ ap (λ (x : List Clause). [] ∷ x) (read-written m k cs (h .1)))
     ∙ ap (λ (x : Clause). x ∷ cs) (append-none c)
 
 -- ---- Lists one after the other, and lengths
