@@ -7,6 +7,8 @@ use Rattle.finder.specs.declared.Found.{Found}
 use Rattle.finder.specs.Find.{FoundValues, foundValues}
 use Rattle.tester.specs.declared.Tested.{Tested}
 use Rattle.tester.specs.Tested.{TestedValues, testedValues}
+use Rattle.propagator.specs.declared.Propagated.{Propagated}
+use Rattle.propagator.specs.Reply.{PropagatedValues, propagatedValues, propagatedReply, propagatedLeft}
 use Rattle.comparer.specs.declared.Compared.{Compared}
 use Rattle.comparer.specs.Bytes.{ComparedValues, comparedValues}
 use Rattle.dimacs_text.specs.declared.Converted.{Converted}
@@ -18,6 +20,7 @@ use Rattle.encoder.specs.Promise.{Promise}
 use Rattle.pongilad.specs.declared.EncodedReply.{EncodedReply}
 use Rattle.pongilad.specs.declared.FoundReply.{FoundReply}
 use Rattle.pongilad.specs.declared.TestedReply.{TestedReply}
+use Rattle.pongilad.specs.declared.PropagatedReply.{PropagatedReply}
 use Rattle.pongilad.specs.declared.ComparedReply.{ComparedReply}
 use Rattle.pongilad.specs.declared.TextReply.{TextReply}
 
@@ -30,6 +33,9 @@ foundFields x = let v : FoundValues = foundValues x in record { found = v .found
 abbrev pub testedFields : Tested → TestedReply
 testedFields x = let v : TestedValues = testedValues x in record { verdict = v .verdict; number = v .number; place = v .place }
 
+abbrev pub propagatedFields : Propagated → PropagatedReply
+propagatedFields x = let v : PropagatedValues = propagatedValues x in record { verdict = v .verdict; number = v .number; place = v .place }
+
 abbrev pub comparedFields : Compared → ComparedReply
 comparedFields x = let v : ComparedValues = comparedValues x in record { same = v .same; word = v .word }
 
@@ -40,6 +46,11 @@ textFields x = let v : ConvertedValues = convertedValues x in record { number = 
 pub record Encodes (ws t e w : List ℕ) (t′ e′ w′ : List ℕ) (r : EncodedReply) : Type 0 where
   pub fields : r ≡ encodedFields (encoded ws (length t) (length e) (length w))
   pub lists : Promise ws t e w t′ e′ w′ (encoded ws (length t) (length e) (length w))
+
+-- THE PROPAGATING CALL: its fields are those of the propagator's reply, and the lent buffer holds what the definition leaves there.
+pub record Settles (bs ws before after : List ℕ) (r : PropagatedReply) : Type 0 where
+  pub fields : r ≡ propagatedFields (propagatedReply bs ws (length before))
+  pub buffer : after ≡ propagatedLeft bs ws before
 
 -- THE CALLS THAT WRITE AND READ TEXT: the fields are those of a reply that keeps the writer's or the reader's promise.
 pub record Converts (Promised : Converted → Type 0) (r : TextReply) : Type 0 where

@@ -4,6 +4,7 @@ use dimacs_text::Converted;
 use encoder_levels::Encoded;
 use finder::Found;
 use finder_records::Node;
+use propagator::Propagated;
 use tester::Tested;
 use word::Remainder;
 ghost use mathlib.Core.Path.{_≡_};
@@ -14,7 +15,7 @@ ghost use Rattle.comparer.specs.Bytes.{compared};
 ghost use Rattle.tester.specs.Tested.{tested};
 ghost use Rattle.dimacs_reader.specs.Reads.{Reads};
 ghost use Rattle.dimacs_writer.specs.Writes.{Writes};
-ghost use Rattle.pongilad.specs.Fields.{encodedFields, foundFields, testedFields, comparedFields, textFields, Encodes, Converts};
+ghost use Rattle.pongilad.specs.Fields.{encodedFields, foundFields, testedFields, propagatedFields, comparedFields, textFields, Encodes, Settles, Converts};
 
 // The encoder's reply: number 0 and the counts, or a refusal's number and place.
 #[repr(C)]
@@ -36,6 +37,14 @@ pub struct FoundReply {
 // The clause tester's reply: verdict 0, all true; 1, the number and place of a clause; 2, those of a refusal.
 #[repr(C)]
 pub struct TestedReply {
+    pub verdict: u64,
+    pub number: u64,
+    pub place: u64,
+}
+
+// The propagator's reply: verdict 0, settled; 1, a conflict; 2, a refusal's number and place.
+#[repr(C)]
+pub struct PropagatedReply {
     pub verdict: u64,
     pub number: u64,
     pub place: u64,
@@ -118,6 +127,29 @@ fn tested_reply(x: Tested) -> TestedReply
     }
 }
 
+// The fields of a propagator's reply.
+fn propagated_reply(x: Propagated) -> PropagatedReply
+    ensures { λ r. ⌜ r ≡ propagatedFields x ⌝ }
+{
+    match x {
+        Propagated::Settled => PropagatedReply {
+            verdict: 0,
+            number: 0,
+            place: 0,
+        },
+        Propagated::Conflict => PropagatedReply {
+            verdict: 1,
+            number: 0,
+            place: 0,
+        },
+        Propagated::Unfit(y) => PropagatedReply {
+            verdict: 2,
+            number: y.number() as u64,
+            place: y.place() as u64,
+        },
+    }
+}
+
 // The fields of a file comparer's reply.
 fn compared_reply(x: Compared) -> ComparedReply
     ensures { λ r. ⌜ r ≡ comparedFields x ⌝ }
@@ -188,6 +220,19 @@ pub extern "C" fn pongilad_test(values: &[u8], clauses: &[u32]) -> TestedReply
 {
     let x = tester::test(values, clauses);
     tested_reply(x)
+}
+
+// All that unit propagation settles from value bytes of 0 (false), 1 (true) and 2 (open); or a conflict, and the starting bytes; or what is refused.
+#[no_mangle]
+pub extern "C" fn pongilad_propagate(
+    values: &[u8],
+    clauses: &[u32],
+    settled: &mut [u8],
+) -> PropagatedReply
+    ensures { λ r. ⌜ Settles (now (values .entry)) (now (clauses .entry)) (now (settled .entry)) (now (settled .exit)) r ⌝ }
+{
+    let x = propagator::propagate(values, clauses, settled);
+    propagated_reply(x)
 }
 
 // Whether the bytes are those of the words, and if not, where they part.

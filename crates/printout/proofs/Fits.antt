@@ -16,7 +16,7 @@ use Rattle.word.specs.Edge.{Edge, F, T, to, edgeWord}
 use Rattle.text.specs.Decimal.{decimal}
 use Rattle.refusal.specs.Table.{numberOf, placeOf, unlessRefused}
 use Rattle.refusal.specs.declared.Refusal.{Refusal}
-use Rattle.refusal.specs.declared.Refusal.the-variants.{NoWords, WrongKind, TermCount, DomainEnd, ZeroCoefficient, TooManyNodes, TooManyEdges, TooManyWords, TooManyBooleans, ValueByte, ClauseWord, UnknownBoolean, LiteralCount, OpenClause, NoRoom, NotDimacs, WrongRelation, LowerEnd}
+use Rattle.refusal.specs.declared.Refusal.the-variants.{NoWords, WrongKind, TermCount, DomainEnd, ZeroCoefficient, TooManyNodes, TooManyEdges, TooManyWords, TooManyBooleans, ValueByte, ClauseWord, UnknownBoolean, LiteralCount, OpenClause, NoRoom, NotDimacs, WrongRelation, LowerEnd, BufferLength}
 use Rattle.refusal.specs.declared.Checked.{Checked}
 use Rattle.refusal.specs.declared.Checked.the-variants as check
 use Rattle.diagram.specs.Table.{Node}
@@ -128,7 +128,8 @@ counts-few n h k l =
       eight (n .words) l,
     )
 
-number-few : (x : Refusal) → numberOf x ≤ 18
+-- no row of documents 01 and 02 has a number above 28
+number-few : (x : Refusal) → numberOf x ≤ 28
 number-few NoWords = omega arith
 number-few (WrongKind at) = omega arith
 number-few (TermCount at) = omega arith
@@ -147,6 +148,7 @@ number-few NoRoom = omega arith
 number-few (NotDimacs at) = omega arith
 number-few (WrongRelation at) = omega arith
 number-few (LowerEnd at) = omega arith
+number-few BufferLength = omega arith
 
 refusal-few : (x : Refusal) → placeOf x < 100000000 → length (refusalLine x) ≤ 29
 refusal-few x h =

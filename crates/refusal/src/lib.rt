@@ -22,6 +22,7 @@ pub enum Refusal {
     NotDimacs(usize),
     WrongRelation(usize),
     LowerEnd(usize),
+    BufferLength,
 }
 
 // What a check finds: nothing to refuse, or the first refusal.
@@ -54,6 +55,7 @@ impl Refusal {
             Refusal::NotDimacs(_) => 16,
             Refusal::WrongRelation(_) => 17,
             Refusal::LowerEnd(_) => 18,
+            Refusal::BufferLength => 19,
         }
     }
 
@@ -80,6 +82,7 @@ impl Refusal {
             Refusal::TooManyWords => 0,
             Refusal::TooManyBooleans => 0,
             Refusal::NoRoom => 0,
+            Refusal::BufferLength => 0,
         }
     }
 }

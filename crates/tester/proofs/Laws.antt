@@ -107,21 +107,21 @@ module _ (v : Values) (cs : List Clause) where
 -- ---- The reply, by what the two checks find
 
 module _ (bs ws : List ℕ) where
-  pub values-refuse : (x : Refusal) → valuesFrom 0 bs ≡ Refused x → Unfit x ≡ tested bs ws
+  pub values-refuse : (x : Refusal) → valuesFrom 1 0 bs ≡ Refused x → Unfit x ≡ tested bs ws
   unfolding tested
   values-refuse x p = rw p
 
-  pub list-refuses : (x : Refusal) → valuesFrom 0 bs ≡ Passed → listFrom (length bs) 0 0 ws ≡ Refused x → Unfit x ≡ tested bs ws
+  pub list-refuses : (x : Refusal) → valuesFrom 1 0 bs ≡ Passed → listFrom (length bs) 0 0 ws ≡ Refused x → Unfit x ≡ tested bs ws
   unfolding tested
   list-refuses x p q = rw (p, q)
 
-  pub both-pass : valuesFrom 0 bs ≡ Passed → listFrom (length bs) 0 0 ws ≡ Passed → scan (valueIn bs) 0 0 (clausesOf ws) ≡ tested bs ws
+  pub both-pass : valuesFrom 1 0 bs ≡ Passed → listFrom (length bs) 0 0 ws ≡ Passed → scan (valueIn bs) 0 0 (clausesOf ws) ≡ tested bs ws
   unfolding tested
   both-pass p q = rw (p, q)
 
 -- ---- The reply where nothing is refused
 
-module _ (bs ws : List ℕ) (values-pass : valuesFrom 0 bs ≡ Passed) (list-passes : listFrom (length bs) 0 0 ws ≡ Passed) where
+module _ (bs ws : List ℕ) (values-pass : valuesFrom 1 0 bs ≡ Passed) (list-passes : listFrom (length bs) 0 0 ws ≡ Passed) where
   lawful-list : Lawful 0 ws
   lawful-list = lawful (length bs) 0 0 ws list-passes
 

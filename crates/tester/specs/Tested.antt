@@ -30,10 +30,10 @@ abbrev pub valueIn : List ℕ → Values
 valueIn bs zero = false
 valueIn bs (suc b) = eqb (getD bs b 0) 1
 
--- Refusal 10, from a place on: every value byte is 0 or 1.
-unfoldable pub valuesFrom : ℕ → List ℕ → Checked
-valuesFrom at [] = Passed
-valuesFrom at (b ∷ bs) = andThen (unless (leb b 1) (ValueByte at)) (valuesFrom (suc at) bs)
+-- Refusal 10, from a place on: no value byte is above `most`, which is 1 here, and 2 where a Boolean may be open.
+unfoldable pub valuesFrom : ℕ → ℕ → List ℕ → Checked
+valuesFrom most at [] = Passed
+valuesFrom most at (b ∷ bs) = andThen (unless (leb b most) (ValueByte at)) (valuesFrom most (suc at) bs)
 
 -- The reply by the clauses alone: the first without a true literal and the place where its words begin, which for an empty clause is its end word; or that
 -- all are true. m clauses came before, and the next begins at `at`.
@@ -43,4 +43,4 @@ scan v m at (c ∷ cs) = let more : Tested = scan v (suc m) (suc (at + length c)
 
 -- THE REPLY: every check comes before the scan.
 unfoldable pub tested : List ℕ → List ℕ → Tested
-tested bs ws = unlessRefused Unfit (andThen (valuesFrom 0 bs) (listFrom (length bs) 0 0 ws)) (scan (valueIn bs) 0 0 (clausesOf ws))
+tested bs ws = unlessRefused Unfit (andThen (valuesFrom 1 0 bs) (listFrom (length bs) 0 0 ws)) (scan (valueIn bs) 0 0 (clausesOf ws))

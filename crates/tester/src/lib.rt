@@ -40,13 +40,13 @@ fn is_true(values: &[u8], w: u32) -> bool
     if word::is_negated(w) { !v } else { v }
 }
 
-// Refusal 10: a value byte that is neither 0 nor 1.
-fn check_values(values: &[u8]) -> Checked
-    ensures { λ r. ⌜ r ≡ valuesFrom 0 (now (values .entry)) ⌝ }
+// Refusal 10: a value byte above the greatest that may occur.
+pub fn check_values(most: u8, values: &[u8]) -> Checked
+    ensures { λ r. ⌜ r ≡ valuesFrom most 0 (now (values .entry)) ⌝ }
 {
     let mut at = 0;
     'bytes: while at < values.len() {
-        if 1 < values[at] {
+        if most < values[at] {
             return Checked::Refused(Refusal::ValueByte(at));
         }
         at += 1;
@@ -92,7 +92,7 @@ pub fn check_list(known: usize, words: &[u32]) -> Checked
 }
 
 // The least word of kind 3, the end word of an empty clause: just the words from it on end a clause.
-const LEAST_END: u32 = 0xC0000000;
+pub const LEAST_END: u32 = 0xC0000000;
 
 // The place right after the next end word, from a place on, or the list's length.
 fn past_end(words: &[u32], from: usize) -> usize
@@ -140,7 +140,7 @@ fn scan_list(values: &[u8], words: &[u32]) -> Tested
 pub fn test(values: &[u8], words: &[u32]) -> Tested
     ensures { λ r. ⌜ Gives testedValues (tested (now (values .entry)) (now (words .entry))) r ⌝ }
 {
-    match check_values(values) {
+    match check_values(1, values) {
         Checked::Refused(x) => Tested::Unfit(x),
         Checked::Passed => match check_list(values.len(), words) {
             Checked::Refused(x) => Tested::Unfit(x),

@@ -39,6 +39,14 @@ pub struct Tested {
 
 #[repr(C)]
 #[derive(Clone, Copy, Debug, PartialEq, Eq)]
+pub struct Propagated {
+    pub verdict: u64,
+    pub number: u64,
+    pub place: u64,
+}
+
+#[repr(C)]
+#[derive(Clone, Copy, Debug, PartialEq, Eq)]
 pub struct Compared {
     pub same: u64,
     pub word: u64,
@@ -66,6 +74,7 @@ extern "C" {
     fn pongilad_find(table: *const u32, n: usize, level: u32, remainder: u32) -> Found;
     fn pongilad_find_node(nodes: *const Node, n: usize, level: u32, remainder: u32) -> Found;
     fn pongilad_test(values: *const u8, v: usize, clauses: *const u32, w: usize) -> Tested;
+    fn pongilad_propagate(values: *const u8, v: usize, clauses: *const u32, w: usize, settled: *mut u8, s: usize) -> Propagated;
     fn pongilad_compare(bytes: *const u8, b: usize, words: *const u32, w: usize) -> Compared;
     fn pongilad_write(clauses: *const u32, w: usize, text: *mut u8, t: usize) -> Text;
     fn pongilad_read(text: *const u8, t: usize, clauses: *mut u32, w: usize) -> Text;
@@ -90,6 +99,12 @@ pub fn find_node(nodes: &[Node], level: u32, remainder: u32) -> Found {
 /// The clause tester.
 pub fn test(values: &[u8], clauses: &[u32]) -> Tested {
     unsafe { pongilad_test(values.as_ptr(), values.len(), clauses.as_ptr(), clauses.len()) }
+}
+
+/// The propagator.
+pub fn propagate(values: &[u8], clauses: &[u32], settled: &mut [u8]) -> Propagated {
+    let s = settled.len();
+    unsafe { pongilad_propagate(values.as_ptr(), values.len(), clauses.as_ptr(), clauses.len(), settled.as_mut_ptr(), s) }
 }
 
 /// The file comparer.

@@ -1,6 +1,7 @@
 //! Times the proved archive against the separately written calls, and the file comparer against loops and `memcmp`: the same inputs in the same run, calls in turn, the least time of each.
 
 mod compare;
+mod propagate;
 mod text;
 
 use reference::constraint::Constraint;
@@ -80,6 +81,7 @@ fn main() {
     println!("Refused with 6; lists of {room:?} words, zeroed by each call:");
     line("65,537 nodes", &fixed::full_with(2), room);
     line("far more", &fixed::beyond(), room);
+    propagate::sizes();
     text::sizes();
     compare::file();
 }

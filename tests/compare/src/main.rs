@@ -14,6 +14,7 @@ mod guarded;
 mod inputs;
 mod lent;
 mod program;
+mod propagator;
 mod show;
 mod signed;
 mod signs;
@@ -58,11 +59,35 @@ fn report_tested(name: &str, t: &tester::Tally) {
     );
 }
 
+/// A line on the propagator.
+fn report_propagated(name: &str, t: &propagator::Tally) {
+    let [settled, conflict, ..] = t.numbers;
+    let calls = t.numbers.iter().sum::<u64>();
+    let refused = numbers_from(&t.numbers, 2);
+    let refused = if refused.is_empty() { refused } else { format!(", refused by number {refused}") };
+    println!("{name}: {calls} calls (settled {settled}, of these {} more than was given, conflict {conflict}{refused})", t.more);
+}
+
 /// A line on the file comparer.
 fn report_compared(name: &str, t: &comparer::Tally) {
     let comparer::Tally { yes, lacking, differing, left_over } = t;
     let calls = yes + lacking + differing + left_over;
     println!("{name}: {calls} calls (yes {yes}, a word lacks bytes {lacking}, a word differs {differing}, bytes left over {left_over})");
+}
+
+/// Unit propagation.
+fn propagation(r: &mut Random) {
+    report_propagated("propagator by the request", &propagator::cases::all(r));
+    report_propagated("propagator, chains of clauses", &propagator::made::chains(r, 10_000));
+    report_propagated("propagator, faults alone and together", &propagator::made::faults(r, 1_000));
+    report_propagated("propagator", &propagator::random(r, 20_000));
+    report_propagated("propagator, every list of up to five words out of nine", &propagator::every(r, 5));
+    report_propagated("propagator, every list of up to three clauses of up to two literals", &propagator::every_clause(r, 3));
+    let f = propagator::completions::by_force(r, 10_000);
+    println!("propagator, constraints whose completions are found by force: {}, never: {}, always: {}", f.constraints, f.never, f.always);
+    report_propagated("propagator on these", &f.calls);
+    println!("propagator on these: {} order Booleans settled that were open, {} left open", f.settled, f.open);
+    report_propagated("propagator on larger lists of the encoder", &propagator::completions::larger(r, 80));
 }
 
 /// DIMACS text, written, read and printed.
@@ -107,6 +132,7 @@ fn main() {
     println!("clause tester by the specification: {} lists", tester::cases());
     report_tested("clause tester", &tester::random(&mut r, 8_000));
     report_tested("clause tester, every list of up to six words out of nine", &tester::every(6));
+    propagation(&mut r);
     println!("file comparer by the request: {} files, and {} by their damage", comparer::cases(), comparer::damaged(&mut r));
     report_compared("file comparer", &comparer::random(&mut r, 2_000));
     report_compared("file comparer, every file of up to nine bytes, each 0 or 1", &comparer::every());

@@ -1,7 +1,7 @@
 //! Random constraints as students write them, with every relation, signs and lower ends, and the words of such constraints damaged.
 
 use crate::inputs::{self, constraint};
-use reference::constraint::Constraint;
+use reference::constraint::{Constraint, Term};
 use reference::random::Random;
 use reference::written::{Relation, Summand, Written};
 
@@ -43,6 +43,15 @@ pub fn written(r: &mut Random) -> Written {
         2 => r.from(1, 5_000_000_000_000),
         _ => base.bound,
     };
+    over(r, &base, bound)
+}
+
+/// A constraint with at most 1,024 choices of values, whose bound lies from one below the least sum up to the greatest.
+pub fn few(r: &mut Random) -> Written {
+    let (most, d, a) = *r.pick(&[(1, 15, 65_535), (2, 8, 300), (3, 5, 65_535), (5, 3, 9), (10, 1, 40)]);
+    let terms = (0..r.from(1, most)).map(|_| Term { a: r.from(1, a), d: r.from(1, d) }).collect();
+    let base = Constraint { bound: 0, terms };
+    let bound = r.from(-1, base.rest(0));
     over(r, &base, bound)
 }
 

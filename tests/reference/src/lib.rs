@@ -3,6 +3,7 @@
 
 pub mod clauses;
 pub mod compare;
+pub mod completions;
 pub mod constraint;
 pub mod diagram;
 pub mod encode;
@@ -10,9 +11,11 @@ pub mod find;
 pub mod fixed;
 pub mod lent;
 pub mod maps;
+pub mod propagate;
 pub mod random;
 pub mod read;
 pub mod refusal;
+pub mod starts;
 pub mod sums;
 pub mod test;
 pub mod words;

@@ -86,4 +86,19 @@ impl Written {
         let turn = self.relation.turn();
         self.terms.iter().zip(values).map(|(t, v)| (v - t.start(turn)).abs()).collect()
     }
+
+    /// All values in the domains, one a term.
+    pub fn domains(&self) -> Vec<Vec<i64>> {
+        let mut found = vec![vec![]];
+        for t in &self.terms {
+            found = found.iter().flat_map(|front: &Vec<i64>| (t.low..=t.low + t.d).map(|v| [&front[..], &[v]].concat())).collect();
+        }
+        found
+    }
+
+    /// The order Booleans that stand for the values: (i, j) is true when the choice of term i is below j.
+    pub fn orders(&self, values: &[i64]) -> Vec<bool> {
+        let choice = self.choice(values);
+        choice.iter().zip(&self.terms).flat_map(|(y, t)| (1..=t.d).map(move |j| *y < j)).collect()
+    }
 }

@@ -1,8 +1,10 @@
 //! Asks real solvers about the text that the program `dimacs` prints: with the order Booleans fixed to values as the student writes them it can be satisfied exactly where
-//! these satisfy the constraint, and as it is exactly where some do. Every text is also read back into the words it stands for. Then it asks about random clause lists,
-//! and compares with the clause tester. It uses `minisat`, `cadical` and `picosat` where they are installed, and says so where none is.
+//! these satisfy the constraint, and as it is exactly where some do. Every text is also read back into the words it stands for. With only some order Booleans fixed it can
+//! be satisfied exactly where unit propagation finds no conflict. Then it asks about random clause lists, and compares with the clause tester. It uses `minisat`, `cadical`
+//! and `picosat` where they are installed, and says so where none is.
 
 mod lists;
+mod propagation;
 mod text;
 mod values;
 
@@ -11,6 +13,7 @@ use std::io::Write as _;
 use std::process::{Command, Stdio};
 
 const CONSTRAINTS: u64 = 80;
+const STARTS: u64 = 400;
 const LISTS: u64 = 100;
 
 /// The exit status where nothing could be asked.
@@ -56,9 +59,14 @@ fn main() {
             "{}: of these {} always hold and {} never; {} values satisfy theirs, {} do not",
             solver.0, v.always, v.never, v.can, v.cannot
         );
+        let f = propagation::check(solver, &mut r, STARTS);
+        println!(
+            "{}: {STARTS} starts for unit propagation, {} settled and satisfiable, {} in conflict and not ({} of these fix nothing)",
+            solver.0, f.settled, f.conflict, f.nothing
+        );
         let t = lists::check(solver, &mut r, LISTS);
         println!("{}: {LISTS} clause lists, {} satisfiable, {} not ({} of these with an empty clause)", solver.0, t.can, t.cannot, t.empty);
-        asked += CONSTRAINTS + v.can + v.cannot + LISTS;
+        asked += CONSTRAINTS + v.can + v.cannot + STARTS + LISTS;
     }
     if asked == 0 {
         println!("no solver can be run here: skipped");

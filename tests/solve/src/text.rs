@@ -6,7 +6,7 @@ use reference::diagram::RECORD;
 /// A text and its clause words.
 pub struct Clauses {
     pub text: String,
-    words: Vec<u32>,
+    pub words: Vec<u32>,
 }
 
 impl Clauses {

@@ -30,7 +30,7 @@ fn summand(r: &mut Random, most: i64) -> Summand {
 }
 
 /// A constraint with few assignments, whose bound is the sum of some of them or one beside it, or lies at or one beyond the least or the greatest sum.
-fn small(r: &mut Random) -> Written {
+pub fn small(r: &mut Random) -> Written {
     loop {
         let most = *r.pick(&[3, 12, 100, 65_535]);
         let terms: Vec<Summand> = (0..r.from(1, 4)).map(|_| summand(r, most)).collect();
@@ -47,26 +47,15 @@ fn small(r: &mut Random) -> Written {
     }
 }
 
-/// All values in the domains.
-fn all(w: &Written) -> Vec<Vec<i64>> {
-    let mut found = vec![vec![]];
-    for t in &w.terms {
-        found = found.iter().flat_map(|front: &Vec<i64>| (t.low..=t.low + t.d).map(|v| [&front[..], &[v]].concat())).collect();
-    }
-    found
-}
-
-/// The literals that fix the order Booleans to the choice that stands for the values: (i, j) is true when the choice of term i is below j.
+/// The literals that fix the order Booleans to those that stand for the values.
 fn units(w: &Written, values: &[i64]) -> Vec<i64> {
-    let choice = w.choice(values);
-    let truths = choice.iter().zip(&w.terms).flat_map(|(v, t)| (1..=t.d).map(move |j| *v < j));
-    (1..).zip(truths).map(|(boolean, truth): (i64, bool)| if truth { boolean } else { -boolean }).collect()
+    (1..).zip(w.orders(values)).map(|(boolean, truth): (i64, bool)| if truth { boolean } else { -boolean }).collect()
 }
 
 impl Tally {
     /// Asks about one constraint and about all its values.
     fn constraint(&mut self, solver: Solver, w: &Written, clauses: &Clauses) {
-        let values = all(w);
+        let values = w.domains();
         let can = values.iter().filter(|v| w.holds(v)).count();
         expect(solver, &clauses.text, can > 0, || format!("{w:?}"));
         for v in &values {

@@ -1,0 +1,105 @@
+-- In closed bytes THE LOWEST VALUES, where just those Booleans are false that are settled false, solve the constraint: no edge on their path is settled false. Assumes nothing.
+use mathlib.Core.Path.{_≡_, refl, sym, ap, subst, _∙_}
+use mathlib.Core.List.{List, [], _∷_}
+use mathlib.Core.Bool.{Bool, true, false, not, true≢false}
+use Prim.Native.Nat.{ℕ, zero, suc, _+_, _-_, _≤_, _<_}
+use native.Mathlib.Nat.{not-suc-le-zero, le-of-suc-le-suc}
+use native.Mathlib.Omega.{arith}
+use lib.Dec.{eqb, leb}
+use lib.IntN.{ℤ}
+use lib.ListN.{length, getD}
+use borrow.Author.Tests.{eqb-true, eq-eqb, ne-eqb, leb-true, leb-false}
+use Rattle.word.specs.Edge.{Edge, F, edgeBoolean}
+use Rattle.diagram.specs.Level.{Level, AllAscend, total, AtMost}
+use Rattle.diagram.specs.Table.{Node}
+use Rattle.diagram.specs.Claim.{nodeAt, levelAt, OfLevel}
+use Rattle.diagram.specs.Right.{Right}
+use Rattle.clause.specs.Meaning.{Values}
+use Rattle.encoding.specs.Boolean.{orders, ordersBefore, Ordered, OrderRule, chosen}
+use Rattle.encoding.proofs.Path.{node-level, covered}
+use Rattle.propagation.specs.Derived.{byte}
+use Rattle.exactness.proofs.Closed.{AllKept, EdgeClosed, ClosedDrawing}
+
+-- false just where it is settled so; true just where it is settled so
+abbrev pub lowest : (ℕ → ℕ) → Values
+lowest p b = not (eqb (p b) 0)
+
+abbrev pub highest : (ℕ → ℕ) → Values
+highest p b = eqb (p b) 1
+
+pub low-false : (p : ℕ → ℕ) (b : ℕ) → lowest p b ≡ false → p b ≡ 0
+low-false p b e = go (eqb (p b) 0) refl e
+  where
+    go : (x : Bool) → eqb (p b) 0 ≡ x → not x ≡ false → p b ≡ 0
+    go true f e = eqb-true _ _ f
+    go false f e = absurd (true≢false e)
+
+pub low-true : (p : ℕ → ℕ) (b : ℕ) → (p b ≡ 0 → ⊥) → lowest p b ≡ true
+low-true p b h = ap not (ne-eqb (p b) 0 h)
+
+pub low-is : (p : ℕ → ℕ) (b : ℕ) → p b ≡ 0 → lowest p b ≡ false
+low-is p b h = ap not (eq-eqb (p b) 0 h)
+
+pub low-keeps : (p : ℕ → ℕ) (b : ℕ) (x : Bool) → p b ≡ byte x → lowest p b ≡ x
+low-keeps p b true e = low-true p b (λ f. omega (arith, e, f))
+low-keeps p b false e = low-is p b e
+
+low-rule : (p : ℕ → ℕ) (b : ℕ) (ls : List Level) → AllKept p b ls → OrderRule (lowest p) b ls
+low-rule p b [] k = tt
+low-rule p b (l ∷ ls) k = (λ j h m e. low-true p (b + suc j) (λ f. true≢false (sym e ∙ low-is p (b + j) (k .0 j h m .1 f))), low-rule p (b + l .dom) ls (k .1))
+
+pub high-rule : (p : ℕ → ℕ) (b : ℕ) (ls : List Level) → AllKept p b ls → OrderRule (highest p) b ls
+high-rule p b [] k = tt
+high-rule p b (l ∷ ls) k = (λ j h m e. eq-eqb (p (b + suc j)) 1 (k .0 j h m .0 (eqb-true _ _ e)), high-rule p (b + l .dom) ls (k .1))
+
+-- a Boolean's level
+pub record OrderPlace (ls : List Level) (b : ℕ) : Type 0 where
+  pub lev : ℕ
+  pub val : ℕ
+  pub deep : lev < length ls
+  pub some : 1 ≤ val
+  pub fits : val ≤ levelAt ls lev .dom
+  pub is : b ≡ ordersBefore ls lev + val
+
+pub order-place : (ls : List Level) (b : ℕ) → 1 ≤ b → b ≤ orders ls → OrderPlace ls b
+order-place [] b h k = absurd (omega arith)
+order-place (l ∷ ls) b h k = go (leb b (l .dom)) refl (λ x y. order-place ls (b - l .dom) x y)
+  where
+    go : (x : Bool) → leb b (l .dom) ≡ x → (1 ≤ b - l .dom → b - l .dom ≤ orders ls → OrderPlace ls (b - l .dom)) → OrderPlace (l ∷ ls) b
+    go true e ih = record { lev = 0; val = b; deep = omega arith; some = h; fits = leb-true _ _ e; is = omega arith }
+    go false e ih =
+        let m : l .dom < b = leb-false _ _ e in
+        let s = ih (omega arith) (omega arith) in
+        record { lev = suc (s .lev); val = s .val; deep = omega (arith, s .deep); some = s .some; fits = s .fits; is = omega (arith, s .is) }
+
+-- levels share no Boolean
+pub earlier : (ls : List Level) (k i : ℕ) → k < i → k < length ls → ordersBefore ls k + levelAt ls k .dom ≤ ordersBefore ls i
+earlier [] k i h m = absurd (not-suc-le-zero m)
+earlier (l ∷ ls) k zero h m = absurd (not-suc-le-zero h)
+earlier (l ∷ ls) zero (suc i) h m = omega arith
+earlier (l ∷ ls) (suc k) (suc i) h m = omega (arith, earlier ls k i (le-of-suc-le-suc h) (le-of-suc-le-suc m))
+
+pub order-from : (v : Values) (b : ℕ) (ls : List Level) → ((i : ℕ) → i < length ls → Ordered v (b + ordersBefore ls i) (levelAt ls i .dom)) → OrderRule v b ls
+order-from v b [] o = tt
+order-from v b (l ∷ ls) o = (
+  let e : b + 0 ≡ b = omega arith in subst (λ (x : ℕ). Ordered v x (l .dom)) e (o 0 (omega arith)),
+  order-from v (b + l .dom) ls (λ i h. let e : b + (l .dom + ordersBefore ls i) ≡ b + l .dom + ordersBefore ls i = omega arith in subst (λ (x : ℕ). Ordered v x (levelAt ls i .dom)) e (o (suc i) (omega arith))),
+)
+
+module _ (ls : List Level) (a : ℤ) (ns : List Node) (top : Edge) (g : AllAscend ls) (r : Right ls a ns top) (p : ℕ → ℕ) (c : ClosedDrawing p ls top ns) where
+  -- what the bytes say along a node's edge
+  pub edge-closed : (n i j : ℕ) → OfLevel ns i n → j ≤ levelAt ls i .dom
+      → EdgeClosed p (orders ls + 3 + n) (ordersBefore ls i + j) j (edgeBoolean (orders ls) (getD (nodeAt ns n .children) j F))
+  edge-closed n i j o k =
+      subst (λ (b : ℕ). EdgeClosed p (orders ls + 3 + n) (b + j) j (edgeBoolean (orders ls) (getD (nodeAt ns n .children) j F))) (node-level ls a ns top g r n i o .1)
+      (c .edges n (o .0) j (omega (arith, r .rows n i o)))
+
+  pub lowest-rule : OrderRule (lowest p) 0 ls
+  lowest-rule = low-rule p 0 ls (c .kept)
+
+  -- THE LOWEST VALUES solve: no edge on their path is settled false
+  pub lowest-solves : AtMost (total ls (chosen (lowest p) 0 ls)) a
+  lowest-solves =
+      covered ls a ns top g r (lowest p) lowest-rule (λ i e. p (edgeBoolean (orders ls) e) ≡ 0 → ⊥) (λ i q. q (c .bottom))
+      (λ i n h k q m f z. q (edge-closed n i (getD (chosen (lowest p) 0 ls) i 0) k m .up z (λ s. low-false p _ (f s))))
+      (λ e. omega (arith, e, c .root))
