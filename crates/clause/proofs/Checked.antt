@@ -1,6 +1,6 @@
 -- THE CHECK OF A CLAUSE LIST, both ways: the words of clauses whose numbers fit pass it, and a list that passes is lawful word by word. A lawful list is
--- the words of its clauses, and the clauses of words behind it follow its own. Assumes nothing.
-use mathlib.Core.Path.{_≡_, refl, sym, ap, ap₂, _∙_}
+-- the words of its clauses, whose numbers fit, and the clauses of words behind it follow its own. Assumes nothing.
+use mathlib.Core.Path.{_≡_, refl, sym, ap, ap₂, subst, _∙_}
 use mathlib.Core.Logic.{_⊎_, inl, inr}
 use mathlib.Core.Bool.{Bool, true, false, cond, _&&_}
 use mathlib.Core.List.{List, [], _∷_, _++_}
@@ -9,7 +9,7 @@ use native.Mathlib.Omega.{arith}
 use lib.Dec.{eqb, leb}
 use lib.ListN.{length}
 use borrow.Author.Tests.{eqb-true, eq-eqb, ne-eqb, le-leb}
-use Rattle.word.specs.Word.{kind, payload, boolean, lastBoolean, endWord}
+use Rattle.word.specs.Word.{kind, payload, boolean, lastBoolean, endWord, lastCount}
 use Rattle.refusal.specs.Table.{andThen, unless}
 use Rattle.refusal.specs.declared.Refusal.the-variants.{ClauseWord, UnknownBoolean, LiteralCount, OpenClause}
 use Rattle.refusal.specs.declared.Checked.{Checked}
@@ -148,3 +148,32 @@ lawful-before l [] ws (inl h) = omega (arith, h .1)
 lawful-before l [] ws (inr h) = absurd (omega (arith, h .0))
 lawful-before l (u ∷ us) ws (inl h) = inl (h .0, h .1, lawful-before 0 us ws (h .2))
 lawful-before l (u ∷ us) ws (inr h) = inr (h .0, h .1, lawful-before (suc l) us ws (h .2))
+
+-- ---- The numbers of a lawful list fit their words
+
+-- where l literals of the first clause stand before
+abbrev FitFrom : ℕ → List Clause → Type 0
+FitFrom l [] = Unit {0}
+FitFrom l (c ∷ cs) = (LiteralsFit lastBoolean c × (l + length c ≤ lastCount)) × Fit lastBoolean cs
+
+fit-from : (cs : List Clause) → FitFrom 0 cs → Fit lastBoolean cs
+fit-from [] f = tt
+fit-from (c ∷ cs) f = ((f .0 .0, omega (arith, f .0 .1)), f .1)
+
+fit-lawful : (l : ℕ) (ws : List ℕ) → Lawful l ws → FitFrom l (clausesOf ws)
+unfolding clausesOf
+fit-lawful l [] h = tt
+fit-lawful l (w ∷ ws) (inl h) =
+    subst (FitFrom l) (sym (read-end w ws (h .0))) ((tt, omega (arith, h .1)), fit-from (clausesOf ws) (fit-lawful 0 ws (h .2)))
+fit-lawful l (w ∷ ws) (inr h) = subst (FitFrom l) (sym (read-literal w ws (h .0))) (go (clausesOf ws) (fit-lawful (suc l) ws (h .2)))
+  where
+    go : (cs : List Clause) → FitFrom (suc l) cs → FitFrom l (joined (literalOf w) cs)
+    go [] f = tt
+    go (c ∷ cs) f = ((((h .1, omega arith), f .0 .0), omega (arith, f .0 .1)), f .1)
+
+pub fit-parts : (cs ds : List Clause) → Fit lastBoolean (cs ++ ds) → Fit lastBoolean cs × Fit lastBoolean ds
+fit-parts [] ds f = (tt, f)
+fit-parts (c ∷ cs) ds f = let t = fit-parts cs ds (f .1) in ((f .0, t .0), t .1)
+
+pub lawful-fit : (ws : List ℕ) → Lawful 0 ws → Fit lastBoolean (clausesOf ws)
+lawful-fit ws h = fit-from (clausesOf ws) (fit-lawful 0 ws h)

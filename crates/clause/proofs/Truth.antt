@@ -5,7 +5,7 @@ use mathlib.Core.List.{List, [], _∷_, _++_}
 use mathlib.Core.Bool.{Bool, true, false, cond, true≢false}
 use Rattle.clause.specs.Meaning.{Literal, Clause, Values, LiteralTrue, ClauseTrue, AllTrue, same, literalTrue, clauseTrue}
 
-same-iff : (a b : Bool) → (same a b ≡ true) ↔ (a ≡ b)
+pub same-iff : (a b : Bool) → (same a b ≡ true) ↔ (a ≡ b)
 same-iff true b = (sym, sym)
 same-iff false true = (λ e. absurd (true≢false (sym e)), λ e. absurd (true≢false (sym e)))
 same-iff false false = (λ e. refl, λ e. refl)

@@ -1,6 +1,6 @@
 -- WHAT BYTES THAT ARE CLOSED under unit clauses say along a drawing: the order Booleans keep their order, and of a node, its child and the order Boolean
 -- between them two tell the third. Assumes nothing.
-use mathlib.Core.Path.{_≡_, refl, sym, ap, subst, _∙_}
+use mathlib.Core.Path.{_≡_, refl, ap, subst, _∙_}
 use mathlib.Core.Logic.{inl, inr, ⊎-elim}
 use mathlib.Core.List.{List, [], _∷_, _++_}
 use Prim.Native.Nat.{ℕ, zero, suc, _+_, _-_, _≤_, _<_}
@@ -14,6 +14,7 @@ use Rattle.diagram.specs.Claim.{nodeAt}
 use Rattle.clause.specs.Meaning.{Literal, Clause}
 use Rattle.encoding.specs.Boolean.{orders, ordersBefore}
 use Rattle.encoding.specs.Pattern.{yes-of, not-of, orderOf, ordersOf, unitsOf, childrenOf, nodeOf, nodesOf, pattern}
+use Rattle.propagation.proofs.Literals.{opposite-same}
 use Rattle.propagation.specs.Derived.{byte, opposite, HasLiteral, UnitClosed}
 
 -- each Boolean's byte, and the literals that it makes true
@@ -39,7 +40,7 @@ each-append p (x ∷ cs) ds c = let t = each-append p cs ds (c .1) in ((c .0, t 
 -- ---- Clauses of one, two and three literals
 
 false-by : (p : ℕ → ℕ) (l : Literal) → TrueBy p (opposite l) → (k : Literal) → k ≡ l → TrueBy p (opposite k)
-false-by p l r k e = subst (λ (x : Literal). TrueBy p (opposite x)) (sym e) r
+false-by p l r k e = opposite-same (TrueBy p) k l e r
 
 only : (p : ℕ → ℕ) (l : Literal) → ClauseClosed p (l ∷ []) → TrueBy p l
 only p l f = f l (inl refl) (λ k m n. ⊎-elim (λ q. absurd (n q)) (λ x. absurd x) m)

@@ -17,6 +17,7 @@ use Rattle.clause.specs.Meaning.{Literal, Values, AllTrue}
 use Rattle.encoding.specs.Boolean.{orders, ordersBefore}
 use Rattle.encoding.specs.Pattern.{pattern}
 use Rattle.encoding.specs.Claim.{Solves, Extends}
+use Rattle.encoding.proofs.Rule.{OrderPlace, order-place}
 use Rattle.encoding.proofs.Admits.{drawing-admits}
 use Rattle.propagation.specs.Derived.{byteOf, byte, TrueIn, opposite, Derived, Conflicting, Bytes, KnownIn}
 use Rattle.propagation.specs.Propagated.{Outcome, conflict, reached, propagated}
@@ -24,7 +25,7 @@ use Rattle.propagation.proofs.Models.{TrueUpTo, models-closed, models-no-confli
 use Rattle.propagation.proofs.Laws.{settled-least, conflict-is, settled-is, reached-keeps, reached-closed}
 use Rattle.exactness.specs.Exact.{Completion, AuxiliaryOpen, IsSettled, Agree, Exact}
 use Rattle.exactness.proofs.Closed.{ClosedDrawing, closed-drawing}
-use Rattle.exactness.proofs.Lowest.{lowest, low-true, low-keeps, lowest-rule, lowest-solves, OrderPlace, order-place}
+use Rattle.exactness.proofs.Lowest.{lowest, low-true, low-keeps, lowest-rule, lowest-solves}
 use Rattle.exactness.proofs.Raised.{raisedValues, raised-rule, raised-solves, raised-keeps, raised-here}
 
 -- no truth value is open

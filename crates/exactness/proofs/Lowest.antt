@@ -2,20 +2,19 @@
 use mathlib.Core.Path.{_≡_, refl, sym, ap, subst, _∙_}
 use mathlib.Core.List.{List, [], _∷_}
 use mathlib.Core.Bool.{Bool, true, false, not, true≢false}
-use Prim.Native.Nat.{ℕ, zero, suc, _+_, _-_, _≤_, _<_}
-use native.Mathlib.Nat.{not-suc-le-zero, le-of-suc-le-suc}
+use Prim.Native.Nat.{ℕ, suc, _+_, _-_, _≤_}
 use native.Mathlib.Omega.{arith}
-use lib.Dec.{eqb, leb}
+use lib.Dec.{eqb}
 use lib.IntN.{ℤ}
-use lib.ListN.{length, getD}
-use borrow.Author.Tests.{eqb-true, eq-eqb, ne-eqb, leb-true, leb-false}
+use lib.ListN.{getD}
+use borrow.Author.Tests.{eqb-true, eq-eqb, ne-eqb}
 use Rattle.word.specs.Edge.{Edge, F, edgeBoolean}
 use Rattle.diagram.specs.Level.{Level, AllAscend, total, AtMost}
 use Rattle.diagram.specs.Table.{Node}
 use Rattle.diagram.specs.Claim.{nodeAt, levelAt, OfLevel}
 use Rattle.diagram.specs.Right.{Right}
 use Rattle.clause.specs.Meaning.{Values}
-use Rattle.encoding.specs.Boolean.{orders, ordersBefore, Ordered, OrderRule, chosen}
+use Rattle.encoding.specs.Boolean.{orders, ordersBefore, OrderRule, chosen}
 use Rattle.encoding.proofs.Path.{node-level, covered}
 use Rattle.propagation.specs.Derived.{byte}
 use Rattle.exactness.proofs.Closed.{AllKept, EdgeClosed, ClosedDrawing}
@@ -51,40 +50,6 @@ low-rule p b (l ∷ ls) k = (λ j h m e. low-true p (b + suc j) (λ f. true≢fa
 pub high-rule : (p : ℕ → ℕ) (b : ℕ) (ls : List Level) → AllKept p b ls → OrderRule (highest p) b ls
 high-rule p b [] k = tt
 high-rule p b (l ∷ ls) k = (λ j h m e. eq-eqb (p (b + suc j)) 1 (k .0 j h m .0 (eqb-true _ _ e)), high-rule p (b + l .dom) ls (k .1))
-
--- a Boolean's level
-pub record OrderPlace (ls : List Level) (b : ℕ) : Type 0 where
-  pub lev : ℕ
-  pub val : ℕ
-  pub deep : lev < length ls
-  pub some : 1 ≤ val
-  pub fits : val ≤ levelAt ls lev .dom
-  pub is : b ≡ ordersBefore ls lev + val
-
-pub order-place : (ls : List Level) (b : ℕ) → 1 ≤ b → b ≤ orders ls → OrderPlace ls b
-order-place [] b h k = absurd (omega arith)
-order-place (l ∷ ls) b h k = go (leb b (l .dom)) refl (λ x y. order-place ls (b - l .dom) x y)
-  where
-    go : (x : Bool) → leb b (l .dom) ≡ x → (1 ≤ b - l .dom → b - l .dom ≤ orders ls → OrderPlace ls (b - l .dom)) → OrderPlace (l ∷ ls) b
-    go true e ih = record { lev = 0; val = b; deep = omega arith; some = h; fits = leb-true _ _ e; is = omega arith }
-    go false e ih =
-        let m : l .dom < b = leb-false _ _ e in
-        let s = ih (omega arith) (omega arith) in
-        record { lev = suc (s .lev); val = s .val; deep = omega (arith, s .deep); some = s .some; fits = s .fits; is = omega (arith, s .is) }
-
--- levels share no Boolean
-pub earlier : (ls : List Level) (k i : ℕ) → k < i → k < length ls → ordersBefore ls k + levelAt ls k .dom ≤ ordersBefore ls i
-earlier [] k i h m = absurd (not-suc-le-zero m)
-earlier (l ∷ ls) k zero h m = absurd (not-suc-le-zero h)
-earlier (l ∷ ls) zero (suc i) h m = omega arith
-earlier (l ∷ ls) (suc k) (suc i) h m = omega (arith, earlier ls k i (le-of-suc-le-suc h) (le-of-suc-le-suc m))
-
-pub order-from : (v : Values) (b : ℕ) (ls : List Level) → ((i : ℕ) → i < length ls → Ordered v (b + ordersBefore ls i) (levelAt ls i .dom)) → OrderRule v b ls
-order-from v b [] o = tt
-order-from v b (l ∷ ls) o = (
-  let e : b + 0 ≡ b = omega arith in subst (λ (x : ℕ). Ordered v x (l .dom)) e (o 0 (omega arith)),
-  order-from v (b + l .dom) ls (λ i h. let e : b + (l .dom + ordersBefore ls i) ≡ b + l .dom + ordersBefore ls i = omega arith in subst (λ (x : ℕ). Ordered v x (levelAt ls i .dom)) e (o (suc i) (omega arith))),
-)
 
 module _ (ls : List Level) (a : ℤ) (ns : List Node) (top : Edge) (g : AllAscend ls) (r : Right ls a ns top) (p : ℕ → ℕ) (c : ClosedDrawing p ls top ns) where
   -- what the bytes say along a node's edge

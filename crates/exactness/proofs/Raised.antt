@@ -16,11 +16,11 @@ use Rattle.diagram.specs.Claim.{nodeAt, levelAt, OfLevel}
 use Rattle.diagram.specs.Right.{Right}
 use Rattle.clause.specs.Meaning.{Values}
 use Rattle.encoding.specs.Boolean.{orders, ordersBefore, Ordered, OrderRule, falses, chosen}
-use Rattle.encoding.proofs.Rule.{order-at, falses-le, chosen-at, value-ge, value-lt}
+use Rattle.encoding.proofs.Rule.{order-at, falses-le, chosen-at, value-ge, value-lt, earlier, order-from}
 use Rattle.encoding.proofs.Path.{covered}
 use Rattle.propagation.specs.Derived.{byte}
 use Rattle.exactness.proofs.Closed.{EdgeClosed, ClosedDrawing}
-use Rattle.exactness.proofs.Lowest.{lowest, highest, low-false, low-true, low-keeps, high-rule, earlier, order-from, edge-closed as edge-closed-at, lowest-rule as lowest-rule-at}
+use Rattle.exactness.proofs.Lowest.{lowest, highest, low-false, low-true, low-keeps, high-rule, edge-closed as edge-closed-at, lowest-rule as lowest-rule-at}
 
 module _ (ls : List Level) (a : ℤ) (ns : List Node) (top : Edge) (g : AllAscend ls) (r : Right ls a ns top) (p : ℕ → ℕ) (c : ClosedDrawing p ls top ns) where
   edge-closed : (n i j : ℕ) → OfLevel ns i n → j ≤ levelAt ls i .dom

@@ -2,7 +2,7 @@
 -- reached hold just this, and a conflict is found just where all literals of some clause are false in it. So the order of working makes no difference: any
 -- closed bytes without a conflict that extend the given ones soundly are these. Assumes nothing.
 use mathlib.Core.Path.{_≡_, refl, sym, ap, ap₂, subst, _∙_}
-use mathlib.Core.Logic.{_↔_}
+use mathlib.Core.Logic.{_↔_, _⊎_, ⊎-elim}
 use mathlib.Core.List.{List, [], _∷_}
 use mathlib.Core.Bool.{Bool, true, false}
 use Prim.Native.Nat.{ℕ, suc}
@@ -128,6 +128,17 @@ module _ (cs : List Clause) (bs : List ℕ) (known : KnownIn (length bs) cs) (le
 
     pub reached-least : (S : Literal → Type 0) → ((l : Literal) → TrueIn bs l → S l) → UnitClosed cs S → (l : Literal) → TrueIn b l → S l
     reached-least S g f l t = settled-least cs bs S g f l (ended .0 .sound l t)
+
+-- AGAIN, WITH MORE GIVEN: from bytes that hold nothing but what is settled, and more, the same is settled as from the given ones and that
+pub settled-again : (cs : List Clause) (bs b xs ys : List ℕ) → ((l : Literal) → TrueIn b l → Derived cs bs l) → ((l : Literal) → TrueIn bs l → TrueIn xs l)
+    → ((l : Literal) → TrueIn xs l → TrueIn ys l) → ((l : Literal) → TrueIn ys l → TrueIn b l ⊎ TrueIn xs l) → (l : Literal) → Derived cs xs l ↔ Derived cs ys l
+settled-again cs bs b xs ys sound first more either l = (
+  settled-least cs xs (Derived cs ys) (λ k t. given k (more k t)) (settled-closed cs ys) l,
+  settled-least cs ys (Derived cs xs) (λ k t. ⊎-elim (λ u. from-first k (sound k u)) (given k) (either k t)) (settled-closed cs xs) l,
+)
+  where
+    from-first : (k : Literal) → Derived cs bs k → Derived cs xs k
+    from-first = settled-least cs bs (Derived cs xs) (λ j t. given j (first j t)) (settled-closed cs xs)
 
 -- AN EMPTY CLAUSE is a conflict
 pub empty-conflict : (cs : List Clause) (bs : List ℕ) → KnownIn (length bs) cs → Bytes bs → HasClause cs [] → propagated cs bs ≡ conflict

@@ -1,5 +1,5 @@
 -- LITERALS AND BYTES: literals are told apart by a test; a byte is true, false or open for a literal, and one of these only. Assumes nothing.
-use mathlib.Core.Path.{_≡_, refl, sym, ap, _∙_}
+use mathlib.Core.Path.{_≡_, refl, sym, ap, subst, _∙_}
 use mathlib.Core.Logic.{_⊎_, inl, inr}
 use mathlib.Core.List.{List}
 use mathlib.Core.Bool.{Bool, true, false, not, _&&_, true≢false}
@@ -8,31 +8,22 @@ use native.Mathlib.Omega.{arith}
 use lib.Dec.{eqb}
 use borrow.Author.Tests.{eqb-true, eqb-false}
 use Rattle.clause.specs.Meaning.{Literal, same}
+use Rattle.clause.proofs.Truth.{same-iff}
 use Rattle.propagation.specs.Derived.{byteOf, byte, TrueIn, opposite}
 use Rattle.propagation.specs.Propagated.{sameLiteral}
-
-same-true : (x y : Bool) → same x y ≡ true → x ≡ y
-same-true true y e = sym e
-same-true false true e = absurd (true≢false (sym e))
-same-true false false e = refl
-
-same-false : (x y : Bool) → same x y ≡ false → x ≡ y → ⊥
-same-false true y e f = true≢false (f ∙ e)
-same-false false true e f = true≢false (sym f)
-same-false false false e f = true≢false e
 
 pub sameLiteral-true : (k l : Literal) → sameLiteral k l ≡ true → k ≡ l
 sameLiteral-true k l e = go (eqb (k .of) (l .of)) refl e
   where
     go : (x : Bool) → eqb (k .of) (l .of) ≡ x → x && same (k .says) (l .says) ≡ true → k ≡ l
-    go true f e = λ i. record { of = eqb-true (k .of) (l .of) f i; says = same-true (k .says) (l .says) e i }
+    go true f e = λ i. record { of = eqb-true (k .of) (l .of) f i; says = same-iff (k .says) (l .says) .0 e i }
     go false f e = absurd (true≢false (sym e))
 
 pub sameLiteral-false : (k l : Literal) → sameLiteral k l ≡ false → k ≡ l → ⊥
 sameLiteral-false k l e q = go (eqb (k .of) (l .of)) refl e
   where
     go : (x : Bool) → eqb (k .of) (l .of) ≡ x → x && same (k .says) (l .says) ≡ false → ⊥
-    go true f e = same-false (k .says) (l .says) e (ap (λ (x : Literal). x .says) q)
+    go true f e = true≢false (sym (same-iff (k .says) (l .says) .1 (ap (λ (x : Literal). x .says) q)) ∙ e)
     go false f e = eqb-false (k .of) (l .of) f (ap (λ (x : Literal). x .of) q)
 
 -- no truth value is its own opposite
@@ -55,6 +46,10 @@ opposite-twice l = λ i. record { of = l .of; says = twice (l .says) i }
     twice : (x : Bool) → not (not x) ≡ x
     twice true = refl
     twice false = refl
+
+-- what holds of the opposite of a literal
+pub opposite-same : (S : Literal → Type 0) (k l : Literal) → k ≡ l → S (opposite l) → S (opposite k)
+opposite-same S k l e t = subst (λ (x : Literal). S (opposite x)) (sym e) t
 
 -- no literal is true together with its opposite
 pub byte-not : (x : Bool) (n : ℕ) → n ≡ byte x → n ≡ byte (not x) → ⊥

@@ -11,7 +11,7 @@ use borrow.Author.Tests.{eqb-true, eqb-false}
 use Rattle.clause.specs.Meaning.{Literal, Clause}
 use Rattle.propagation.specs.Derived.{byteOf, byte, TrueIn, opposite, HasLiteral}
 use Rattle.propagation.specs.Propagated.{Status, neither, unit, falsified, sameLiteral, metOpen, met, statusFrom, status}
-use Rattle.propagation.proofs.Literals.{sameLiteral-true, sameLiteral-false, not-same, literals-decide, opposite-twice, not-both-true, OpenIn}
+use Rattle.propagation.proofs.Literals.{sameLiteral-true, sameLiteral-false, not-same, literals-decide, opposite-twice, opposite-same, not-both-true, OpenIn}
 
 -- why a clause has its status
 pub data StatusSays (bs : List ℕ) (c : Clause) : Status → Type 0 where
@@ -20,17 +20,14 @@ pub data StatusSays (bs : List ℕ) (c : Clause) : Status → Type 0 where
   has-one : (l : Literal) → HasLiteral c l → OpenIn bs l → ((k : Literal) → HasLiteral c k → ¬ (k ≡ l) → TrueIn bs (opposite k)) → StatusSays bs c (unit l)
   has-none : ((k : Literal) → HasLiteral c k → TrueIn bs (opposite k)) → StatusSays bs c falsified
 
-false-by : (bs : List ℕ) (k l : Literal) → k ≡ l → TrueIn bs (opposite l) → TrueIn bs (opposite k)
-false-by bs k l e t = subst (λ (x : Literal). TrueIn bs (opposite x)) (sym e) t
-
 -- ---- One literal more
 
 module _ (bs : List ℕ) (l : Literal) (c : Clause) where
   says-false : TrueIn bs (opposite l) → (s : Status) → StatusSays bs c s → StatusSays bs (l ∷ c) s
   says-false r s (has-true k m t) = has-true k (inr m) t
   says-false r s (has-two k j m n d o q) = has-two k j (inr m) (inr n) d o q
-  says-false r s (has-one k m o f) = has-one k (inr m) o (λ j h n. ⊎-elim (λ e. false-by bs j l e r) (λ i. f j i n) h)
-  says-false r s (has-none f) = has-none (λ j. ⊎-elim (λ e. false-by bs j l e r) (f j))
+  says-false r s (has-one k m o f) = has-one k (inr m) o (λ j h n. ⊎-elim (λ e. opposite-same (TrueIn bs) j l e r) (λ i. f j i n) h)
+  says-false r s (has-none f) = has-none (λ j. ⊎-elim (λ e. opposite-same (TrueIn bs) j l e r) (f j))
 
   says-open : OpenIn bs l → (s : Status) → StatusSays bs c s → StatusSays bs (l ∷ c) (metOpen l s)
   says-open o s (has-true k m t) = has-true k (inr m) t

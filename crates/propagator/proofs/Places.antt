@@ -11,38 +11,12 @@ use borrow.Author.Tests.{eq-eqb, ne-eqb}
 use Rattle.word.specs.Word.{kind, payload, lastBoolean, endWord, lastCount}
 use Rattle.clause.specs.Meaning.{Literal, Clause, literalOf, joined, clausesOf, wordOf, closed, wordsOf}
 use Rattle.clause.proofs.Written.{LiteralsFit, Fit, literal-word, end-word, read-end, read-literal, words-append, size, size-append, words-length}
-use Rattle.clause.proofs.Checked.{Lawful, lawful, lawful-written}
+use Rattle.clause.proofs.Checked.{Lawful, lawful, lawful-written, lawful-fit, fit-parts}
 use Rattle.tester.specs.Past.{pastEnd}
 use Rattle.propagation.specs.Derived.{HasLiteral, HasClause, KnownIn}
 use Rattle.propagation.specs.Propagated.{Status, falsified, met, statusFrom, status}
 use Rattle.propagator.specs.Pass.{looked, Ended, ListPasses, Split, Between}
 use Rattle.propagator.proofs.Looks.{LawfulWord, listed-at}
-
--- ---- The numbers of a lawful list fit their words
-
--- where l literals of the first clause stand before
-abbrev FitFrom : ℕ → List Clause → Type 0
-FitFrom l [] = Unit {0}
-FitFrom l (c ∷ cs) = (LiteralsFit lastBoolean c × (l + length c ≤ lastCount)) × Fit lastBoolean cs
-
-fit-from : (cs : List Clause) → FitFrom 0 cs → Fit lastBoolean cs
-fit-from [] f = tt
-fit-from (c ∷ cs) f = ((f .0 .0, omega (arith, f .0 .1)), f .1)
-
-lawful-fit : (l : ℕ) (ws : List ℕ) → Lawful l ws → FitFrom l (clausesOf ws)
-unfolding clausesOf
-lawful-fit l [] h = tt
-lawful-fit l (w ∷ ws) (inl h) =
-    subst (FitFrom l) (sym (read-end w ws (h .0))) ((tt, omega (arith, h .1)), fit-from (clausesOf ws) (lawful-fit 0 ws (h .2)))
-lawful-fit l (w ∷ ws) (inr h) = subst (FitFrom l) (sym (read-literal w ws (h .0))) (go (clausesOf ws) (lawful-fit (suc l) ws (h .2)))
-  where
-    go : (cs : List Clause) → FitFrom (suc l) cs → FitFrom l (joined (literalOf w) cs)
-    go [] f = tt
-    go (c ∷ cs) f = ((((h .1, omega arith), f .0 .0), omega (arith, f .0 .1)), f .1)
-
-fit-parts : (cs ds : List Clause) → Fit lastBoolean (cs ++ ds) → Fit lastBoolean cs × Fit lastBoolean ds
-fit-parts [] ds f = (tt, f)
-fit-parts (c ∷ cs) ds f = let t = fit-parts cs ds (f .1) in ((f .0, t .0), t .1)
 
 -- ---- The words of one clause
 
@@ -131,7 +105,7 @@ module _ (ws : List ℕ) (n : ℕ) (listed : ListPasses n ws) where
     within = omega (arith, long)
 
     all-fit : Fit lastBoolean (pre ++ post)
-    all-fit = subst (Fit lastBoolean) (s .clauses) (fit-from (clausesOf ws) (lawful-fit 0 ws law))
+    all-fit = subst (Fit lastBoolean) (s .clauses) (lawful-fit ws law)
 
     pub fits-before : Fit lastBoolean pre
     fits-before = fit-parts pre post all-fit .0

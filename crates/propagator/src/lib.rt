@@ -117,21 +117,6 @@ fn look(words: &[u32], from: usize, bytes: &[u8]) -> Seen
     }
 }
 
-// The place right after the next end word, which is there.
-fn past(words: &[u32], from: usize) -> usize
-    requires { ⌜ Ended (now words) from ⌝ }
-    ensures { λ r. ⌜ r ≡ pastEnd from (drop from (now (words .entry))) ⌝ }
-{
-    let mut at = from;
-    'words: loop {
-        let w = words[at];
-        at += 1;
-        if LEAST_END <= w {
-            return at;
-        }
-    }
-}
-
 // What the clause that begins at a place asks for, and the place behind it. In a list that passes the check an end word with the count of the words before it ends
 // just these, so a clause of two or three literals is known by its end word.
 fn next(words: &[u32], from: usize, bytes: &[u8]) -> Seen
@@ -157,7 +142,7 @@ fn next(words: &[u32], from: usize, bytes: &[u8]) -> Seen
     let l = look(words, from, bytes);
     Seen {
         found: l.found,
-        at: past(words, l.at),
+        at: tester::past_end(words, l.at),
     }
 }
 

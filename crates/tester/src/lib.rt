@@ -95,7 +95,7 @@ pub fn check_list(known: usize, words: &[u32]) -> Checked
 pub const LEAST_END: u32 = 0xC0000000;
 
 // The place right after the next end word, from a place on, or the list's length.
-fn past_end(words: &[u32], from: usize) -> usize
+pub fn past_end(words: &[u32], from: usize) -> usize
     requires { ⌜ from ≤ length (now words) ⌝ }
     ensures { λ r. ⌜ r ≡ pastEnd from (drop from (now (words .entry))) ⌝ }
 {

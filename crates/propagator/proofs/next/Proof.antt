@@ -3,7 +3,7 @@ use native.Mathlib.Omega.{arith}
 use mathlib.Core.Path.{_∙_}
 use Prim.Native.Nat.{_+_}
 use lib.ListN.{length}
-use Rattle.propagator.proofs.Looks.{met-asks}
+use Rattle.propagator.proofs.Looks.{ended-in, met-asks}
 use Rattle.propagator.proofs.Places.{between-ended}
 use Rattle.propagator.proofs.EndWords.{ended-words, ended-past}
 use borrow.Author.Needs.{needs}
@@ -76,11 +76,11 @@ look-requires c κs =
     let start = c .before .before .before in
     (start .pre .0, between-ended (start .args .words .now) (length (start .args .bytes .now)) (start .pre .0) (start .args .from) (start .pre .1) (start .pre .2))
 
-past-requires : tie.Need-past-requires
-past-requires c κs = search needs
+past-end-requires : tie.Need-past-end-requires
+past-end-requires c κs = let start = c .before .before .before .before in omega (arith, ended-in (start .args .words .now) (c .look .result .at) (c .look .ensures .ended))
 
 returns-3 : tie.Need-returns-3
-returns-3 c = (c .before .look .ensures .asks, c .past .ensures ∙ c .before .look .ensures .past)
+returns-3 c = (c .before .look .ensures .asks, c .past-end .ensures ∙ c .before .look .ensures .past)
 
 pub next-spec : {M : Type 1} → statement M
 next-spec =
@@ -100,5 +100,5 @@ next-spec =
     add-t17
     returns-2
     look-requires
-    past-requires
+    past-end-requires
     returns-3)
