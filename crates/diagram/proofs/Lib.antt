@@ -9,6 +9,7 @@ pub mod Whole
 pub mod Order
 pub mod Unique
 pub mod Drawn
+pub mod Rooted
 pub mod Terms
 pub mod Entering
 pub mod Written

@@ -19,7 +19,7 @@ use Rattle.encoder_levels.specs.declared.Encoded.{Encoded}
 use Rattle.encoder_levels.specs.Reply.{capacity, countsWithin}
 use Rattle.filler.specs.Filled.{nodesFor, rootFor, constraintOf, Tabled}
 use Rattle.encoder_levels.specs.Passes.{Cleared, leftIn, Answered}
-use Rattle.encoder_levels.proofs.Root.{root-F, root-T, root-to}
+use Rattle.diagram.proofs.Rooted.{root-F, root-T, root-to}
 use Rattle.filler.proofs.Lists.{labelled-append}
 use Rattle.encoder_levels.proofs.Answers.{refuse-6, refused-answer}
 
