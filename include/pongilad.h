@@ -3,7 +3,7 @@
  *
  * Link with libpongilad.a (x86-64 Linux). Each call is proved, for every input and every length, to reply and to leave the lent
  * lists as its definition says; docs/TRUST.md leads to the definitions. No call allocates, keeps a pointer or prints.
- * pongilad_encode takes up to about 30 KB of stack (measured, not proved); the other calls take next to none.
+ * pongilad_encode takes up to about 30 KB of stack, pongilad_mark under 2 KB (measured, not proved); the other calls take next to none.
  *
  * LISTS AND LENGTHS
  *   A list is a pointer followed by its length. The length counts elements: 32-bit words for uint32_t, bytes for uint8_t,
@@ -55,7 +55,7 @@
  *                         behind the last literal of each clause. A clause has up to 1,073,741,823 literals. A number has no plus sign, and no 0
  *                         before other digits.
  *
- * REFUSALS, by number. Checks run in this order, but that pongilad_encode tries 17 and then 18 between 2 and 3, and 4 and 5 term by term;
+ * REFUSALS, by number. Checks run in this order, but that 17 and then 18 are tried between 2 and 3, and 4 and 5 term by term;
  * 11, 12 and 13 are tried word by word; pongilad_read tries 16 before 15. For one term or word the lower number comes first. Places count
  * from 0.
  *   No.  The call refuses because                                   Place                 Lent lists afterwards
@@ -91,8 +91,11 @@
  *   17   the relation is above 3                                    1                     as they were
  *   18   a lower end is below -1,000,000 or above 1,000,000         the word              as they were
  *   19   the buffer has another length than the values              0                     as it was
- *   1 to 9, 17 and 18 come from pongilad_encode, 10 to 14 from pongilad_test, 10 to 14 and then 19 from pongilad_propagate, 11 to 15 from
- *   pongilad_write, 16 and 15 in this order from pongilad_read.
+ *   20   a record of the hand-in is not right; or it has none,      the first such        only read
+ *        and the bound of the base form is neither below 0 nor at   record; 0 for none
+ *        least the greatest sum of all terms
+ *   1 to 9, 17 and 18 come from pongilad_encode, 1 to 5, 17, 18 and then 20 from pongilad_mark, 10 to 14 from pongilad_test, 10 to 14 and
+ *   then 19 from pongilad_propagate, 11 to 15 from pongilad_write, 16 and 15 in this order from pongilad_read.
  *   6, 7 and 8 go by what the finished diagram needs. pongilad_write zeroes the lent text after 11 to 14 too.
  */
 #ifndef PONGILAD_H
@@ -157,6 +160,14 @@ typedef struct {
 typedef struct {
     uint64_t verdict, number, place;
 } pongilad_propagated;
+
+/* What pongilad_mark replies.
+ *   right   1: the hand-in is right; 0: it is not, or the constraint is refused
+ *   number  right 0: the refusal's number, 1 to 5, 17, 18 or 20; otherwise 0
+ *   place   right 0: the refusal's place, which for 20 is the number of the first bad record, from 0; otherwise 0 */
+typedef struct {
+    uint64_t right, number, place;
+} pongilad_marked;
 
 /* What pongilad_compare replies.
  *   same  1 where the bytes are those of the words, most significant byte first, exactly four for each word; otherwise 0
@@ -227,6 +238,25 @@ pongilad_tested pongilad_test(const uint8_t *values, size_t values_length, const
  * chain, and 24 seconds in a random order. */
 pongilad_propagated pongilad_propagate(const uint8_t *values, size_t values_length, const uint32_t *clauses, size_t clauses_length,
                                        uint8_t *settled, size_t settled_length);
+
+/* Marks a drawing of the constraint's diagram: whether the table's records, with their edges, are right, or which is the first that is not.
+ * A record is right where
+ *   - its level is from 1 to the number of terms, and its lower end is not above its upper;
+ *   - its d + 1 edges lie in the edge list from its first place on;
+ *   - each edge is PONGILAD_FALSE, PONGILAD_TRUE or the number of a record one level down (any other word from 0x40000000 on is no edge);
+ *   - every number of its label, less a times j, lies in the label of child j. T's label is R and above, F's everything below 0, with R the
+ *     greatest sum of the terms behind the record's own (0 at the last level), also where an edge to T or F skips levels.
+ * Record 0 must also be at level 1 and hold the bound of the base form; a record numbered PONGILAD_NODES or more is wrong. Without records
+ * the hand-in is right where that bound is below 0 or at least the greatest sum of all terms.
+ * Each record is judged by itself. Nodes may repeat, in any order, and labels may be narrower than the encoder's; the fifth word of a record,
+ * words behind the last full record, and edges that no record has, make no difference. The counted part of a table that pongilad_encode
+ * wrote, table_length = nodes * PONGILAD_RECORD, is right with its edge list, the whole or as far as it is counted; zeros behind the nodes
+ * are records of level 0, which are not right.
+ * The clauses of a right drawing, with record 0 as the root (without records T, or F where the bound is below 0), admit just the solutions.
+ * Records that are pongilad_node structs may be lent as (const uint32_t *)nodes with nodes_length * PONGILAD_RECORD words.
+ * Takes one look at each record and at each of its edges, with the record that the edge leads to, up to the first bad record. */
+pongilad_marked pongilad_mark(const uint32_t *words, size_t words_length, const uint32_t *table, size_t table_length, const uint32_t *edges,
+                              size_t edges_length);
 
 /* Writes a clause list as DIMACS text, with bytes of 0 behind it up to the end of the lent text. The bytes of 0 are no part of the text: pongilad_read is
  * lent the length of the reply. The whole list is checked before a byte is written; 11 * clauses_length + 18 bytes are room enough for any list. */

@@ -9,6 +9,8 @@ use Rattle.tester.specs.declared.Tested.{Tested}
 use Rattle.tester.specs.Tested.{TestedValues, testedValues}
 use Rattle.propagator.specs.declared.Propagated.{Propagated}
 use Rattle.propagator.specs.Reply.{PropagatedValues, propagatedValues, propagatedReply, propagatedLeft}
+use Rattle.refusal.specs.declared.Checked.{Checked}
+use Rattle.marker.specs.Reply.{MarkedValues, markedValues}
 use Rattle.comparer.specs.declared.Compared.{Compared}
 use Rattle.comparer.specs.Bytes.{ComparedValues, comparedValues}
 use Rattle.dimacs_text.specs.declared.Converted.{Converted}
@@ -21,6 +23,7 @@ use Rattle.pongilad.specs.declared.EncodedReply.{EncodedReply}
 use Rattle.pongilad.specs.declared.FoundReply.{FoundReply}
 use Rattle.pongilad.specs.declared.TestedReply.{TestedReply}
 use Rattle.pongilad.specs.declared.PropagatedReply.{PropagatedReply}
+use Rattle.pongilad.specs.declared.MarkedReply.{MarkedReply}
 use Rattle.pongilad.specs.declared.ComparedReply.{ComparedReply}
 use Rattle.pongilad.specs.declared.TextReply.{TextReply}
 
@@ -35,6 +38,9 @@ testedFields x = let v : TestedValues = testedValues x in record { verdict = v .
 
 abbrev pub propagatedFields : Propagated → PropagatedReply
 propagatedFields x = let v : PropagatedValues = propagatedValues x in record { verdict = v .verdict; number = v .number; place = v .place }
+
+abbrev pub markedFields : Checked → MarkedReply
+markedFields x = let v : MarkedValues = markedValues x in record { right = v .right; number = v .number; place = v .place }
 
 abbrev pub comparedFields : Compared → ComparedReply
 comparedFields x = let v : ComparedValues = comparedValues x in record { same = v .same; word = v .word }

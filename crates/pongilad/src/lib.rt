@@ -5,6 +5,7 @@ use encoder_levels::Encoded;
 use finder::Found;
 use finder_records::Node;
 use propagator::Propagated;
+use refusal::Checked;
 use tester::Tested;
 use word::Remainder;
 ghost use mathlib.Core.Path.{_≡_};
@@ -13,9 +14,10 @@ ghost use Rattle.finder.specs.Find.{findIn};
 ghost use Rattle.finder_records.specs.Nodes.{recordsOf};
 ghost use Rattle.comparer.specs.Bytes.{compared};
 ghost use Rattle.tester.specs.Tested.{tested};
+ghost use Rattle.marker.specs.Reply.{markedReply};
 ghost use Rattle.dimacs_reader.specs.Reads.{Reads};
 ghost use Rattle.dimacs_writer.specs.Writes.{Writes};
-ghost use Rattle.pongilad.specs.Fields.{encodedFields, foundFields, testedFields, propagatedFields, comparedFields, textFields, Encodes, Settles, Converts};
+ghost use Rattle.pongilad.specs.Fields.{encodedFields, foundFields, testedFields, propagatedFields, markedFields, comparedFields, textFields, Encodes, Settles, Converts};
 
 // The encoder's reply: number 0 and the counts, or a refusal's number and place.
 #[repr(C)]
@@ -46,6 +48,14 @@ pub struct TestedReply {
 #[repr(C)]
 pub struct PropagatedReply {
     pub verdict: u64,
+    pub number: u64,
+    pub place: u64,
+}
+
+// The marker's reply: right is 1, or 0 with a refusal's number and place.
+#[repr(C)]
+pub struct MarkedReply {
+    pub right: u64,
     pub number: u64,
     pub place: u64,
 }
@@ -150,6 +160,24 @@ fn propagated_reply(x: Propagated) -> PropagatedReply
     }
 }
 
+// The fields of a marker's reply.
+fn marked_reply(x: Checked) -> MarkedReply
+    ensures { λ r. ⌜ r ≡ markedFields x ⌝ }
+{
+    match x {
+        Checked::Passed => MarkedReply {
+            right: 1,
+            number: 0,
+            place: 0,
+        },
+        Checked::Refused(y) => MarkedReply {
+            right: 0,
+            number: y.number() as u64,
+            place: y.place() as u64,
+        },
+    }
+}
+
 // The fields of a file comparer's reply.
 fn compared_reply(x: Compared) -> ComparedReply
     ensures { λ r. ⌜ r ≡ comparedFields x ⌝ }
@@ -233,6 +261,15 @@ pub extern "C" fn pongilad_propagate(
 {
     let x = propagator::propagate(values, clauses, settled);
     propagated_reply(x)
+}
+
+// Whether the table and the edge list are a right drawing of the constraint that the words state, and if not, what is refused or which is the first bad record.
+#[no_mangle]
+pub extern "C" fn pongilad_mark(words: &[u32], table: &[u32], edges: &[u32]) -> MarkedReply
+    ensures { λ r. ⌜ r ≡ markedFields (markedReply (now (words .entry)) (now (table .entry)) (now (edges .entry))) ⌝ }
+{
+    let x = marker::mark(words, table, edges);
+    marked_reply(x)
 }
 
 // Whether the bytes are those of the words, and if not, where they part.

@@ -1,14 +1,13 @@
 -- NO TEXT IS LONGER than its buffer with the program's room: a diagram's has at most 131,072 bytes, as numbers, node numbers among them, have at most 8 digits,
 -- and a line 45 bytes besides its children; the clauses' has at most 196,608, as a word takes at most 11.
 -- Assumes nothing.
-use mathlib.Core.Path.{_≡_, refl, sym, ap, ap₂, _∙_}
+use mathlib.Core.Path.{_≡_, refl, ap, subst}
 use mathlib.Core.List.{List, [], _∷_, _++_, map}
 use mathlib.Core.Bool.{Bool, true, false, cond}
 use Prim.Native.Nat.{ℕ, suc, _+_, _*_, _%_, _≤_, _<_}
 use native.Mathlib.Omega.{arith}
 use lib.Dec.{ltb, eqb}
-use lib.ListN.{length, getD, take, drop, length-append, length-map}
-use lib.Seq.{take-all}
+use lib.ListN.{length, getD, take, length-append, length-map}
 use borrow.Author.Tests.{ltb-false}
 use Rattle.word.specs.Record.{mostNodes}
 use Rattle.word.specs.Word.{lastBoolean}
@@ -16,7 +15,7 @@ use Rattle.word.specs.Edge.{Edge, F, T, to, edgeWord}
 use Rattle.text.specs.Decimal.{decimal}
 use Rattle.refusal.specs.Table.{numberOf, placeOf, unlessRefused}
 use Rattle.refusal.specs.declared.Refusal.{Refusal}
-use Rattle.refusal.specs.declared.Refusal.the-variants.{NoWords, WrongKind, TermCount, DomainEnd, ZeroCoefficient, TooManyNodes, TooManyEdges, TooManyWords, TooManyBooleans, ValueByte, ClauseWord, UnknownBoolean, LiteralCount, OpenClause, NoRoom, NotDimacs, WrongRelation, LowerEnd, BufferLength}
+use Rattle.refusal.specs.declared.Refusal.the-variants.{NoWords, WrongKind, TermCount, DomainEnd, ZeroCoefficient, TooManyNodes, TooManyEdges, TooManyWords, TooManyBooleans, ValueByte, ClauseWord, UnknownBoolean, LiteralCount, OpenClause, NoRoom, NotDimacs, WrongRelation, LowerEnd, BufferLength, BadRecord}
 use Rattle.refusal.specs.declared.Checked.{Checked}
 use Rattle.refusal.specs.declared.Checked.the-variants as check
 use Rattle.diagram.specs.Table.{Node}
@@ -45,7 +44,8 @@ use Rattle.encoder.proofs.Meant.{edges-length, clauseWords-length}
 use Rattle.encoder_levels.proofs.Answers.{countsOf}
 use Rattle.printout_lines.specs.Text.{child, children, nodeLine, nodeLines, countsLine, refusalLine, nodesWord, edgesWord, wordsWord, refusedWord, atWord, newline, field, tooLong, badLength}
 use Rattle.printout.specs.Shown.{mostBytes, mostWords, roomNodes, roomTable, roomEdges, roomClauses, wordsIn, acceptedText, replyText, wordsText, shownIn, shown, Shows, ShowsAll}
-use Rattle.text.proofs.Cuts.{printed-inside, printed-count}
+use Rattle.text.specs.Cut.{Printed}
+use Rattle.text.proofs.Cuts.{printed-inside, printed-count, printed-all}
 use Rattle.text.proofs.Decimals.{digits-few}
 use Rattle.printout.proofs.Input as Input
 use Rattle.dimacs_writer.proofs.Restored.{written-few}
@@ -54,7 +54,7 @@ use Rattle.printout.specs.declared.Form.the-variants.{Diagram, Clauses}
 
 -- ---- Decimals
 
-eight : (n : ℕ) → n < 100000000 → length (decimal n) ≤ 8
+pub eight : (n : ℕ) → n < 100000000 → length (decimal n) ≤ 8
 eight n h = digits-few 7 n h
 
 -- ---- Lines
@@ -149,8 +149,9 @@ number-few (NotDimacs at) = omega arith
 number-few (WrongRelation at) = omega arith
 number-few (LowerEnd at) = omega arith
 number-few BufferLength = omega arith
+number-few (BadRecord at) = omega arith
 
-refusal-few : (x : Refusal) → placeOf x < 100000000 → length (refusalLine x) ≤ 29
+pub refusal-few : (x : Refusal) → placeOf x < 100000000 → length (refusalLine x) ≤ 29
 refusal-few x h =
     omega (
       arith,
@@ -257,9 +258,6 @@ pub printed-whole : (f : Form) (bs t e w first t′ e′ w′ out : List ℕ) (r
     → Shows f bs t e w first t′ e′ w′ out r
     → ShowsAll f bs t e w first t′ e′ w′ out r × ((r ≤ length out) × (r ≡ length (take r out)))
 printed-whole f bs t e w first t′ e′ w′ out r a b c n s =
-    let p = s .text in
-    let q : take (length first) (shownIn f bs (length t) (length e) (length w)) ≡ shown f bs =
-    (λ i. take (length first) (shownIn f bs (a i) (b i) (c i))) ∙ take-all (length first) (shown f bs) (omega (arith, shown-fits f bs)) in (
-      record { shows = s; reply = p .reply ∙ ap length q; text = p .list ∙ ap₂ (λ (x : List ℕ) (k : ℕ). x ++ drop k first) q (sym (p .reply)) },
-      (printed-inside p, printed-count p),
-    )
+    let p = subst (λ (x : List ℕ). Printed x first out r) (λ i. shownIn f bs (a i) (b i) (c i)) (s .text) in
+    let q = printed-all p (omega (arith, shown-fits f bs)) in
+    (record { shows = s; reply = q .0; text = q .1 }, (printed-inside p, printed-count p))

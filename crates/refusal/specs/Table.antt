@@ -5,7 +5,7 @@ use lib.Dec.{leb}
 use Rattle.refusal.specs.declared.Refusal.{Refusal}
 use Rattle.refusal.specs.declared.Checked.{Checked}
 use Rattle.refusal.specs.declared.Checked.the-variants.{Passed, Refused}
-use Rattle.refusal.specs.declared.Refusal.the-variants.{NoWords, WrongKind, TermCount, DomainEnd, ZeroCoefficient, TooManyNodes, TooManyEdges, TooManyWords, TooManyBooleans, ValueByte, ClauseWord, UnknownBoolean, LiteralCount, OpenClause, NoRoom, NotDimacs, WrongRelation, LowerEnd, BufferLength}
+use Rattle.refusal.specs.declared.Refusal.the-variants.{NoWords, WrongKind, TermCount, DomainEnd, ZeroCoefficient, TooManyNodes, TooManyEdges, TooManyWords, TooManyBooleans, ValueByte, ClauseWord, UnknownBoolean, LiteralCount, OpenClause, NoRoom, NotDimacs, WrongRelation, LowerEnd, BufferLength, BadRecord}
 
 abbrev pub numberOf : Refusal → ℕ
 numberOf NoWords = 1
@@ -27,6 +27,7 @@ numberOf (NotDimacs at) = 16
 numberOf (WrongRelation at) = 17
 numberOf (LowerEnd at) = 18
 numberOf BufferLength = 19
+numberOf (BadRecord at) = 20
 
 abbrev pub placeOf : Refusal → ℕ
 placeOf NoWords = 0
@@ -48,6 +49,7 @@ placeOf (NotDimacs at) = at
 placeOf (WrongRelation at) = at
 placeOf (LowerEnd at) = at
 placeOf BufferLength = 0
+placeOf (BadRecord at) = at
 
 -- The refusals that constraint words alone decide, by their numbers: 1 to 5, and 17 and 18. They leave lent memory untouched.
 abbrev pub ofWords : ℕ → Bool

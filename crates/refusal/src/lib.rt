@@ -23,6 +23,7 @@ pub enum Refusal {
     WrongRelation(usize),
     LowerEnd(usize),
     BufferLength,
+    BadRecord(usize),
 }
 
 // What a check finds: nothing to refuse, or the first refusal.
@@ -56,6 +57,7 @@ impl Refusal {
             Refusal::WrongRelation(_) => 17,
             Refusal::LowerEnd(_) => 18,
             Refusal::BufferLength => 19,
+            Refusal::BadRecord(_) => 20,
         }
     }
 
@@ -76,6 +78,7 @@ impl Refusal {
             Refusal::NotDimacs(at) => at,
             Refusal::WrongRelation(at) => at,
             Refusal::LowerEnd(at) => at,
+            Refusal::BadRecord(at) => at,
             Refusal::NoWords => 0,
             Refusal::TooManyNodes => 0,
             Refusal::TooManyEdges => 0,

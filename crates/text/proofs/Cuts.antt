@@ -135,6 +135,12 @@ module _ {text before after : List ℕ} {r : ℕ} (p : Printed text before after
   pub printed-count : r ≡ length (take r after)
   printed-count = sym (length-take-le r after printed-inside)
 
+  -- A TEXT THAT FINDS ROOM stands there whole
+  pub printed-all : length text ≤ length before → (r ≡ length text) × (after ≡ text ++ drop r before)
+  printed-all h =
+      let q : take (length before) text ≡ text = take-all (length before) text h in
+      (p .reply ∙ ap length q, p .list ∙ ap₂ (λ (x : List ℕ) (k : ℕ). x ++ drop k before) q (sym (p .reply)))
+
 -- ---- The whole, with what is left of it
 
 -- of the bytes bs, to be written from `start` on, those before the place `at` are in, and `rest` is left

@@ -47,6 +47,14 @@ pub struct Propagated {
 
 #[repr(C)]
 #[derive(Clone, Copy, Debug, PartialEq, Eq)]
+pub struct Marked {
+    pub right: u64,
+    pub number: u64,
+    pub place: u64,
+}
+
+#[repr(C)]
+#[derive(Clone, Copy, Debug, PartialEq, Eq)]
 pub struct Compared {
     pub same: u64,
     pub word: u64,
@@ -75,6 +83,7 @@ extern "C" {
     fn pongilad_find_node(nodes: *const Node, n: usize, level: u32, remainder: u32) -> Found;
     fn pongilad_test(values: *const u8, v: usize, clauses: *const u32, w: usize) -> Tested;
     fn pongilad_propagate(values: *const u8, v: usize, clauses: *const u32, w: usize, settled: *mut u8, s: usize) -> Propagated;
+    fn pongilad_mark(words: *const u32, n: usize, table: *const u32, t: usize, edges: *const u32, e: usize) -> Marked;
     fn pongilad_compare(bytes: *const u8, b: usize, words: *const u32, w: usize) -> Compared;
     fn pongilad_write(clauses: *const u32, w: usize, text: *mut u8, t: usize) -> Text;
     fn pongilad_read(text: *const u8, t: usize, clauses: *mut u32, w: usize) -> Text;
@@ -105,6 +114,11 @@ pub fn test(values: &[u8], clauses: &[u32]) -> Tested {
 pub fn propagate(values: &[u8], clauses: &[u32], settled: &mut [u8]) -> Propagated {
     let s = settled.len();
     unsafe { pongilad_propagate(values.as_ptr(), values.len(), clauses.as_ptr(), clauses.len(), settled.as_mut_ptr(), s) }
+}
+
+/// The marker.
+pub fn mark(words: &[u32], table: &[u32], edges: &[u32]) -> Marked {
+    unsafe { pongilad_mark(words.as_ptr(), words.len(), table.as_ptr(), table.len(), edges.as_ptr(), edges.len()) }
 }
 
 /// The file comparer.

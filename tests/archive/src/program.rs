@@ -1,4 +1,4 @@
-//! The programs that read constraint words from standard input.
+//! The programs that read words from standard input.
 
 use std::io::Write as _;
 use std::process::{Command, Stdio};

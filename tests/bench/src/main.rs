@@ -1,6 +1,7 @@
 //! Times the proved archive against the separately written calls, and the file comparer against loops and `memcmp`: the same inputs in the same run, calls in turn, the least time of each.
 
 mod compare;
+mod mark;
 mod propagate;
 mod text;
 
@@ -82,6 +83,7 @@ fn main() {
     line("65,537 nodes", &fixed::full_with(2), room);
     line("far more", &fixed::beyond(), room);
     propagate::sizes();
+    mark::sizes();
     text::sizes();
     compare::file();
 }

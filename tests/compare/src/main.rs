@@ -13,6 +13,7 @@ mod finder;
 mod guarded;
 mod inputs;
 mod lent;
+mod marker;
 mod program;
 mod propagator;
 mod show;
@@ -68,6 +69,14 @@ fn report_propagated(name: &str, t: &propagator::Tally) {
     println!("{name}: {calls} calls (settled {settled}, of these {} more than was given, conflict {conflict}{refused})", t.more);
 }
 
+/// A line on the marker.
+fn report_marked(name: &str, t: &marker::Tally) {
+    let (calls, right, bad) = (t.numbers.iter().sum::<u64>(), t.numbers[0], t.numbers[20]);
+    let words = numbers_from(&t.numbers[..20], 1);
+    let words = if words.is_empty() { words } else { format!(", refused by number {words}") };
+    println!("{name}: {calls} calls (right {right}, a bad record {bad}, of these record 0 {}{words})", t.first);
+}
+
 /// A line on the file comparer.
 fn report_compared(name: &str, t: &comparer::Tally) {
     let comparer::Tally { yes, lacking, differing, left_over } = t;
@@ -88,6 +97,29 @@ fn propagation(r: &mut Random) {
     report_propagated("propagator on these", &f.calls);
     println!("propagator on these: {} order Booleans settled that were open, {} left open", f.settled, f.open);
     report_propagated("propagator on larger lists of the encoder", &propagator::completions::larger(r, 80));
+}
+
+/// Marking.
+fn marking(r: &mut Random) {
+    report_marked("marker by the specification", &marker::cases::all());
+    report_marked("marker, every hand-in of one record with small fields", &marker::small::every());
+    report_marked("marker, every hand-in of a root and one record more", &marker::small::every_pair());
+    report_marked("marker, small records", &marker::small::random(r, 200_000));
+    report_marked("marker, any words", &marker::small::rubbish(r, 50_000));
+    report_marked("marker, tables of the encoder", &marker::tables::small_ones(r, 500));
+    report_marked("marker, larger tables of the encoder", &marker::tables::larger(r, 40));
+    report_marked("marker, other right drawings", &marker::drawings::changed(r, 10_000));
+    report_marked("marker, 65,535 to 70,000 records", &marker::many::records());
+    let f = marker::admitted::solutions(r, 2_000);
+    let kinds = format!("the encoder's {}, changed at random {}, random {}, without records {}", f.own, f.damaged, f.random, f.empty);
+    println!("marker, hand-ins whose clauses are held against the solutions: {} ({kinds})", f.hand_ins);
+    println!("marker on these: values of all order Booleans: {} admitted, {} not", f.admitted, f.shut_out);
+    report_marked("marker on these", &f.calls);
+    let p = marker::program::program(r, 600);
+    println!(
+        "marking program: {} inputs (of the random ones right {}, record {}, refused {}, other {})",
+        p.inputs, p.right, p.record, p.refused, p.other
+    );
 }
 
 /// DIMACS text, written, read and printed.
@@ -133,6 +165,7 @@ fn main() {
     report_tested("clause tester", &tester::random(&mut r, 8_000));
     report_tested("clause tester, every list of up to six words out of nine", &tester::every(6));
     propagation(&mut r);
+    marking(&mut r);
     println!("file comparer by the request: {} files, and {} by their damage", comparer::cases(), comparer::damaged(&mut r));
     report_compared("file comparer", &comparer::random(&mut r, 2_000));
     report_compared("file comparer, every file of up to nine bytes, each 0 or 1", &comparer::every());

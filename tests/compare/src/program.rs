@@ -29,6 +29,15 @@ fn input(r: &mut Random, k: u64) -> Vec<u32> {
     words
 }
 
+/// Compares what the program of this name prints with what is wanted; of a long input the front is told.
+pub fn expect(name: &str, bytes: &[u8], wanted: &str) {
+    let told = printed(name, bytes);
+    if told != wanted.as_bytes() {
+        let (told, wanted) = (told.escape_ascii(), wanted.escape_default());
+        differ(name, format!("{} bytes {:02X?}\nprinted {told}\nwanted  {wanted}", bytes.len(), &bytes[..bytes.len().min(2_000)]));
+    }
+}
+
 /// A program by its name, and what it prints for an accepted constraint.
 pub struct Program {
     pub name: &'static str,
@@ -48,11 +57,7 @@ impl Program {
 
     /// Compares the program's output with what is wanted.
     fn expect(&self, bytes: &[u8], wanted: &str) {
-        let told = printed(self.name, bytes);
-        if told != wanted.as_bytes() {
-            let told = told.escape_ascii();
-            differ(self.name, format!("{} bytes {bytes:02X?}\nprinted {told}\nwanted  {}", bytes.len(), wanted.escape_default()));
-        }
+        expect(self.name, bytes, wanted);
     }
 
     /// Compares the output for the words of accepted constraints with what the specification makes of them; gives how many.

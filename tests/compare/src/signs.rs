@@ -8,7 +8,7 @@ use reference::random::Random;
 use reference::{maps, sums};
 
 /// Words, the refusal's number and its place.
-const REFUSED: &[(&str, u64, u64)] = &[
+pub const REFUSED: &[(&str, u64, u64)] = &[
     // The examples.
     ("00000000 C0000004 00000000", 2, 2),
     ("00000000 C0000004 A0000000 40010001", 17, 1),

@@ -11,6 +11,7 @@ pub mod find;
 pub mod fixed;
 pub mod lent;
 pub mod maps;
+pub mod mark;
 pub mod propagate;
 pub mod random;
 pub mod read;

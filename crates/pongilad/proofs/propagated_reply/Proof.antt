@@ -1,7 +1,8 @@
 -- `pongilad::propagated_reply` meets its contract: each case of the reply has its fields. Assumes nothing.
-use mathlib.Core.Path.{sym, ap}
+use mathlib.Core.Path.{refl, sym, ap}
+use Rattle.propagator.specs.declared.Propagated.the-variants.{Unfit}
 use Rattle.pongilad.specs.Fields.{propagatedFields}
-use Rattle.pongilad.proofs.Laws.{unpropagated-fields}
+use Rattle.pongilad.proofs.Laws.{refusal-fields}
 use borrow.Author.Needs.{needs}
 use Rattle.pongilad.proofs.propagated_reply.Statement.{statement}
 use Rattle.pongilad.proofs.propagated_reply.Tie as tie
@@ -31,7 +32,7 @@ returns-2 : tie.Need-returns-2
 returns-2 c = sym (ap propagatedFields (c .enum-told2 .given .1))
 
 returns-3 : tie.Need-returns-3
-returns-3 c = unpropagated-fields _ _ _ _ (c .before .before .before .x .given .1) (c .before .number .ensures) (c .place .ensures)
+returns-3 c = refusal-fields propagatedFields Unfit (λ n p. record { verdict = 2; number = n; place = p }) (λ x. refl) _ _ _ _ (c .before .before .before .x .given .1) (c .before .number .ensures) (c .place .ensures)
 
 pub propagated-reply-spec : {M : Type 1} → statement M
 propagated-reply-spec =

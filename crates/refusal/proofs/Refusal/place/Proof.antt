@@ -39,6 +39,9 @@ enum-known-self-11 c = search needs
 enum-known-self-12 : tie.Need-enum-known-self-12
 enum-known-self-12 c = search needs
 
+enum-known-self-13 : tie.Need-enum-known-self-13
+enum-known-self-13 c = search needs
+
 enum-told : tie.Need-enum-told
 enum-told c = search needs
 
@@ -97,25 +100,28 @@ returns-12 : tie.Need-returns-12
 returns-12 c = rw (c .before .self12 .given .1)
 
 returns-13 : tie.Need-returns-13
-returns-13 c = rw (c .enum-told .given .1)
+returns-13 c = rw (c .before .self13 .given .1)
 
 returns-14 : tie.Need-returns-14
-returns-14 c = rw (c .enum-told2 .given .1)
+returns-14 c = rw (c .enum-told .given .1)
 
 returns-15 : tie.Need-returns-15
-returns-15 c = rw (c .enum-told3 .given .1)
+returns-15 c = rw (c .enum-told2 .given .1)
 
 returns-16 : tie.Need-returns-16
-returns-16 c = rw (c .enum-told4 .given .1)
+returns-16 c = rw (c .enum-told3 .given .1)
 
 returns-17 : tie.Need-returns-17
-returns-17 c = rw (c .enum-told5 .given .1)
+returns-17 c = rw (c .enum-told4 .given .1)
 
 returns-18 : tie.Need-returns-18
-returns-18 c = rw (c .enum-told6 .given .1)
+returns-18 c = rw (c .enum-told5 .given .1)
 
 returns-19 : tie.Need-returns-19
-returns-19 c = rw (c .enum-told7 .given .1)
+returns-19 c = rw (c .enum-told6 .given .1)
+
+returns-20 : tie.Need-returns-20
+returns-20 c = rw (c .enum-told7 .given .1)
 
 pub place-spec : {M : Type 1} → statement M
 place-spec =
@@ -133,6 +139,7 @@ place-spec =
     enum-known-self-10
     enum-known-self-11
     enum-known-self-12
+    enum-known-self-13
     enum-told
     enum-told-2
     enum-told-3
@@ -158,4 +165,5 @@ place-spec =
     returns-16
     returns-17
     returns-18
-    returns-19)
+    returns-19
+    returns-20)

@@ -1,0 +1,2 @@
+-- The marker accepts what the encoder draws.
+pub mod Encoded

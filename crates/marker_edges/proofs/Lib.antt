@@ -1,0 +1,2 @@
+-- Laws of the edges' tests.
+pub mod Turns

@@ -1,0 +1,2 @@
+pub mod HandIn
+pub mod Judged
