@@ -3,7 +3,7 @@
  *
  * Link with libpongilad.a (x86-64 Linux). Each call is proved, for every input and every length, to reply and to leave the lent
  * lists as its definition says; docs/TRUST.md leads to the definitions. No call allocates, keeps a pointer or prints.
- * pongilad_encode takes up to about 30 KB of stack, pongilad_mark under 2 KB (measured, not proved); the other calls take next to none.
+ * The encoding calls take up to about 30 KB of stack, pongilad_mark under 2 KB (measured, not proved); the other calls take next to none.
  *
  * LISTS AND LENGTHS
  *   A list is a pointer followed by its length. The length counts elements: 32-bit words for uint32_t, bytes for uint8_t,
@@ -64,14 +64,14 @@
  *        of kind 0, a later one is, one of kind 3 is not the        the number of words
  *        second, or one of kind 2 follows one of kind 2; or the     where only the end
  *        last word is of kind 2                                     is wrong
- *    3   there is no term, or there are more than 64                the number of words   as they were
+ *    3   there is no term, or there are more than the limit,        the number of words   as they were
+ *        PONGILAD_TERMS or the caller's
  *    4   a distance d, without bit 29, is 0 or greater than 15      the term's word       as they were
  *    5   a coefficient is 0                                         the term's word       as they were
- *    6   the diagram has more nodes than the table has room for     0                     all words of all three are 0
+ *    6   the diagram has more nodes than the table has room for,    0                     all words of all three are 0
+ *        or than the limit, PONGILAD_NODES or the caller's
  *    7   the diagram has more edges than the edge list has words    0                     all words of all three are 0
  *    8   more clause words are needed than the clause list has      0                     all words of all three are 0
- *    9   a Boolean would need a number above 536,870,911; within    0                     all words of all three are 0
- *        the limits above this does not arise
  *   10   a value byte is above 1, or, for pongilad_propagate,       the byte              as they were
  *        above 2
  *   11   a clause word has kind 0 or 1                              the word              as they were; for
@@ -94,9 +94,9 @@
  *   20   a record of the hand-in is not right; or it has none,      the first such        only read
  *        and the bound of the base form is neither below 0 nor at   record; 0 for none
  *        least the greatest sum of all terms
- *   1 to 9, 17 and 18 come from pongilad_encode, 1 to 5, 17, 18 and then 20 from pongilad_mark, 10 to 14 from pongilad_test, 10 to 14 and
- *   then 19 from pongilad_propagate, 11 to 15 from pongilad_write, 16 and 15 in this order from pongilad_read.
- *   6, 7 and 8 go by what the finished diagram needs. pongilad_write zeroes the lent text after 11 to 14 too.
+ *   1 to 8, 17 and 18 come from pongilad_encode and pongilad_encode_with, 1 to 5, 17, 18 and then 20 from pongilad_mark, 10 to 14 from
+ *   pongilad_test, 10 to 14 and then 19 from pongilad_propagate, 11 to 15 from pongilad_write, 16 and 15 in this order from pongilad_read.
+ *   No call refuses with 9. 6, 7 and 8 go by what the finished diagram needs. pongilad_write zeroes the lent text after 11 to 14 too.
  */
 #ifndef PONGILAD_H
 #define PONGILAD_H
@@ -114,7 +114,8 @@ extern "C" {
 /* How many words a node record has. */
 #define PONGILAD_RECORD 5
 
-/* The most nodes that a table takes, however long it is. */
+/* The main limits: the most terms of a constraint, and the most nodes that a table takes, however long it is. */
+#define PONGILAD_TERMS 64
 #define PONGILAD_NODES 65536
 
 /* A node record as a struct: the five words of a record in the table, in their order.
@@ -126,8 +127,8 @@ typedef struct {
     uint32_t level, lower, upper, first, entering;
 } pongilad_node;
 
-/* What pongilad_encode replies.
- *   number  0: accepted; 1 to 9, 17 or 18: the number of the refusal
+/* What pongilad_encode and pongilad_encode_with reply.
+ *   number  0: accepted; 1 to 8, 17 or 18: the number of the refusal
  *   place   the place of the refusal; 0 where accepted
  *   nodes   how many node records the table holds; 0 where refused
  *   edges   how many edge words the edge list holds; 0 where refused
@@ -203,6 +204,15 @@ typedef struct {
  * 7 or 8, and with 6 only what has more than PONGILAD_NODES nodes. */
 pongilad_encoded pongilad_encode(const uint32_t *words, size_t words_length, uint32_t *table, size_t table_length, uint32_t *edges,
                                  size_t edges_length, uint32_t *clauses, size_t clauses_length);
+
+/* The same under the caller's limits on terms and on nodes, which refusals 3 and 6 go by; nothing else changes. A limit above the main one,
+ * PONGILAD_TERMS or PONGILAD_NODES, counts as the main one. 0 is legal: with most_terms 0 every constraint is refused with 3, if not with
+ * 1, 2, 17 or 18; with most_nodes 0 only a constraint without nodes is accepted.
+ * With limits t and n, up to the main ones, lists of 5 * n table words, 16 * n edge words and 42 * t + 63 * n + 6 clause words are long
+ * enough: nothing is refused with 7 or 8, and with 6 only what has more than n nodes.
+ * What is accepted so, pongilad_encode accepts in lists of the same lengths, with the same counts and the same words in all three. */
+pongilad_encoded pongilad_encode_with(uint64_t most_terms, uint64_t most_nodes, const uint32_t *words, size_t words_length, uint32_t *table,
+                                      size_t table_length, uint32_t *edges, size_t edges_length, uint32_t *clauses, size_t clauses_length);
 
 /* Finds the first record of the level whose label holds the remainder: lower end <= remainder <= upper end; or counts the gap.
  * The last two words of a record make no difference, and words behind the last full record are not read. Every table is legal, of

@@ -18,6 +18,7 @@ use Rattle.constraint.specs.declared.Constraint.{Constraint as Held}
 use Rattle.constraint_bound.specs.declared.Difference.{Difference}
 use Rattle.constraint_bound.specs.declared.Bound.{Bound}
 use Rattle.constraint.specs.declared.making.Item.{Item}
+use Rattle.limits.specs.Limits.{mainLimits}
 use Rattle.constraint_words.specs.Reading.{hasRelation, firstItem, items, termChecked, termOf, termsFrom, termsIn, relationIn, boundIn, checked, asWritten, stated}
 use Rattle.constraint.specs.Held.{heldOf}
 use Rattle.constraint_bound.specs.Bound.{boundOf}
@@ -54,9 +55,9 @@ pub record Made (ws : List ℕ) (terms : ℕ) (coefficients ends rests : List �
   pub gain-fits : p .gain ≤ mostBound + mostShift * length (termsAt ws at)
   pub loss-fits : p .loss ≤ mostBound + mostShift * length (termsAt ws at)
 
-module _ (ws : List ℕ) (ok : checked ws ≡ Passed) where
-  passed-all : AllPassed ws
-  passed-all = checked-all ws ok
+module _ (ws : List ℕ) (ok : checked mainLimits ws ≡ Passed) where
+  passed-all : AllPassed mainLimits ws
+  passed-all = checked-all mainLimits ws ok
 
   count-known : (1 ≤ length (termsIn ws)) × (length (termsIn ws) ≤ mostTerms)
   count-known = up-to mostTerms (length (termsIn ws)) (passed-all .count)

@@ -13,6 +13,7 @@ use Rattle.diagram.specs.Constraint.{mostTerms, greatestSum, mostOrders}
 use Rattle.inequality.specs.Base.{negativeBy, shiftIf}
 use Rattle.constraint_bound.specs.Bound.{boundOf}
 use Rattle.constraint_bound.specs.declared.Bound.the-variants.{Natural}
+use Rattle.limits.specs.Limits.{mainLimits}
 use Rattle.constraint_words.specs.Reading.{termOf, termsIn, relationIn, checked}
 use Rattle.constraint_words.specs.Plain.{isPlain}
 use Rattle.constraint_words.proofs.Laws.{checked-all}
@@ -28,7 +29,7 @@ use Rattle.constraint.proofs.Made.{Made, made-none, places-known, more-
 pub bound-own : (z : ℕ) → Natural z ≡ boundOf (subℕ z 0)
 bound-own z = let e : z ≡ z - 0 = omega arith in ap Natural e ∙ sym (bound-value z 0 (omega arith))
 
-module _ (ws : List ℕ) (only : isPlain ws ≡ true) (ok : checked ws ≡ Passed) where
+module _ (ws : List ℕ) (only : isPlain ws ≡ true) (ok : checked mainLimits ws ≡ Passed) where
   abbrev start : Difference
   start = record { gain = payload (getD ws 0 0); loss = 0 }
 
@@ -53,7 +54,7 @@ module _ (ws : List ℕ) (only : isPlain ws ≡ true) (ok : checked ws ≡ Passe
       where
         before-term : (at : ℕ) → 0 < at → at < length ws → kind (getD ws (at - 1) 0) ≡ 2 → ⊥
         before-term zero s h k = absurd (omega arith)
-        before-term (suc zero) s h k = let p = checked-all ws ok .first in absurd (omega arith)
+        before-term (suc zero) s h k = let p = checked-all mainLimits ws ok .first in absurd (omega arith)
         before-term (suc (suc n)) s h k =
             let e : suc (suc n) - 1 ≡ suc n = omega arith in
             let p = plain-word ws only (suc n) (omega arith) (omega arith) in

@@ -1,4 +1,4 @@
-// The checks of constraint words that go by the record's limits: refusals 3 to 5, and 17 and 18 before them.
+// The checks of constraint words that go by limits, the caller's on terms and the record's: refusals 3 to 5, and 17 and 18 before them.
 ghost use mathlib.Core.Path.{_≡_};
 ghost use mathlib.Core.Bool.{true};
 ghost use Prim.Native.Nat.{_≤_};
@@ -7,6 +7,8 @@ ghost use Rattle.word.specs.Word.{kind};
 ghost use Rattle.constraint_words.specs.Reading.{firstItem, eachFrom, termChecked, itemsChecked, checked};
 ghost use Rattle.constraint_words.specs.Plain.{isPlain};
 use crate::Constraint;
+use limits::Limits;
+use limits::counted_as;
 use refusal::Checked;
 use refusal::Refusal;
 
@@ -46,22 +48,23 @@ fn check_terms(words: &[u32], first: usize) -> Checked
 }
 
 // Refusals 3 to 5 of plain words.
-pub fn check_plain(words: &[u32]) -> Checked
+pub fn check_plain(limits: Limits, words: &[u32]) -> Checked
     requires { ⌜ (kind (getD (now words) 0 0) ≡ 0) × (isPlain (now words) ≡ true) ⌝ }
-    ensures { λ r. ⌜ r ≡ checked (now (words .entry)) ⌝ }
+    ensures { λ r. ⌜ r ≡ checked limits (now (words .entry)) ⌝ }
 {
     let count = words.len();
     let terms = count - 1;
-    if terms < 1 || Constraint::TERMS < terms {
+    let most = counted_as(limits.terms, Constraint::TERMS);
+    if terms < 1 || most < terms {
         return Checked::Refused(Refusal::TermCount(count));
     }
     check_terms(words, 1)
 }
 
 // Refusals 17, 18 and 3 to 5 of words whose items stand in their places.
-pub fn check_items(words: &[u32], first: usize) -> Checked
+pub fn check_items(limits: Limits, words: &[u32], first: usize) -> Checked
     requires { ⌜ (first ≡ firstItem (now words)) × (first ≤ length (now words)) ⌝ }
-    ensures { λ r. ⌜ r ≡ itemsChecked (now (words .entry)) ⌝ }
+    ensures { λ r. ⌜ r ≡ itemsChecked limits (now (words .entry)) ⌝ }
 {
     if first == 2 && 3 < word::payload_of(words[1]) {
         return Checked::Refused(Refusal::WrongRelation(1));
@@ -70,7 +73,8 @@ pub fn check_items(words: &[u32], first: usize) -> Checked
     match constraint_places::check_lowers(words, first, terms) {
         Checked::Refused(x) => Checked::Refused(x),
         Checked::Passed => {
-            if terms < 1 || Constraint::TERMS < terms {
+            let most = counted_as(limits.terms, Constraint::TERMS);
+            if terms < 1 || most < terms {
                 return Checked::Refused(Refusal::TermCount(words.len()));
             }
             check_terms(words, first)

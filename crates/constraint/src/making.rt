@@ -4,6 +4,7 @@ ghost use mathlib.Core.Bool.{true};
 ghost use Prim.Native.Nat.{_≤_};
 ghost use lib.ListN.{length};
 ghost use Rattle.refusal.specs.declared.Checked.the-variants.{Passed};
+ghost use Rattle.limits.specs.Limits.{mainLimits};
 ghost use Rattle.constraint_words.specs.Reading.{checked, stated};
 ghost use Rattle.constraint_words.specs.Plain.{isPlain};
 ghost use Rattle.constraint.specs.Held.{heldOf};
@@ -43,7 +44,7 @@ fn item_before(words: &[u32], at: usize) -> Item
 
 // The record of plain words that pass the check: nothing is added to the bound.
 pub fn make_plain(words: &[u32]) -> Constraint
-    requires { ⌜ (checked (now words) ≡ Passed) × (isPlain (now words) ≡ true) ⌝ }
+    requires { ⌜ (checked mainLimits (now words) ≡ Passed) × (isPlain (now words) ≡ true) ⌝ }
     ensures { λ r. ⌜ r ≡ heldOf (stated (now (words .entry))) ⌝ }
 {
     let terms = words.len() - 1;
@@ -76,7 +77,7 @@ pub fn make_plain(words: &[u32]) -> Constraint
 
 // The record of any words that pass the check.
 pub fn make_items(words: &[u32]) -> Constraint
-    requires { ⌜ checked (now words) ≡ Passed ⌝ }
+    requires { ⌜ checked mainLimits (now words) ≡ Passed ⌝ }
     ensures { λ r. ⌜ r ≡ heldOf (stated (now (words .entry))) ⌝ }
 {
     let turned = is_turned(words);

@@ -18,7 +18,8 @@ use Rattle.refusal.specs.declared.Checked.{Checked}
 use Rattle.refusal.specs.declared.Refusal.the-variants.{NoWords, WrongKind, TermCount, WrongRelation}
 use Rattle.refusal.specs.declared.Checked.the-variants.{Passed, Refused}
 use Rattle.refusal.proofs.Passes.{both-passed}
-use Rattle.diagram.specs.Constraint.{mostTerms}
+use Rattle.limits.specs.declared.Limits.{Limits}
+use Rattle.limits.specs.Limits.{termLimit}
 use Rattle.inequality.specs.Written.{farthestLower}
 use Rattle.constraint_words.specs.Reading.{upTo, hasRelation, firstItem, items, eachFrom, canStand, placedFrom, relationChecked, lowerChecked, termChecked, termsIn, itemsChecked, checked}
 
@@ -105,27 +106,28 @@ stands-due due n e f = rw (ne-eqb n 1 e, f) (go (eqb n 2))
 
 -- ---- The check, part by part: no words; and where there are words, of the first one, and of the items' places
 
-pub checked-none : (ws : List ℕ) → length ws ≡ 0 → checked ws ≡ Refused NoWords
-unfolding checked
-checked-none [] h = refl
-checked-none (w ∷ ws) h = absurd (omega arith)
+module _ (l : Limits) where
+  pub checked-none : (ws : List ℕ) → length ws ≡ 0 → checked l ws ≡ Refused NoWords
+  unfolding checked
+  checked-none [] h = refl
+  checked-none (w ∷ ws) h = absurd (omega arith)
 
-checked-parts : (ws : List ℕ) → 0 < length ws
-    → checked ws ≡ andThen (unless (eqb (kind (getD ws 0 0)) 0) (WrongKind 0)) (andThen (placedFrom false (firstItem ws) (items ws)) (itemsChecked ws))
-unfolding checked
-checked-parts [] h = absurd (omega arith)
-checked-parts (w ∷ ws) h = refl
+  checked-parts : (ws : List ℕ) → 0 < length ws
+      → checked l ws ≡ andThen (unless (eqb (kind (getD ws 0 0)) 0) (WrongKind 0)) (andThen (placedFrom false (firstItem ws) (items ws)) (itemsChecked l ws))
+  unfolding checked
+  checked-parts [] h = absurd (omega arith)
+  checked-parts (w ∷ ws) h = refl
 
-module _ (ws : List ℕ) (some : 0 < length ws) where
-  pub checked-first : (kind (getD ws 0 0) ≡ 0 → ⊥) → checked ws ≡ Refused (WrongKind 0)
-  checked-first n = rw (checked-parts ws some, ne-eqb (kind (getD ws 0 0)) 0 n)
+  module _ (ws : List ℕ) (some : 0 < length ws) where
+    pub checked-first : (kind (getD ws 0 0) ≡ 0 → ⊥) → checked l ws ≡ Refused (WrongKind 0)
+    checked-first n = rw (checked-parts ws some, ne-eqb (kind (getD ws 0 0)) 0 n)
 
-  module _ (first : kind (getD ws 0 0) ≡ 0) where
-    pub checked-places : (x : Refusal) → placedFrom false (firstItem ws) (items ws) ≡ Refused x → checked ws ≡ Refused x
-    checked-places x e = rw (checked-parts ws some, eq-eqb (kind (getD ws 0 0)) 0 first, e)
+    module _ (first : kind (getD ws 0 0) ≡ 0) where
+      pub checked-places : (x : Refusal) → placedFrom false (firstItem ws) (items ws) ≡ Refused x → checked l ws ≡ Refused x
+      checked-places x e = rw (checked-parts ws some, eq-eqb (kind (getD ws 0 0)) 0 first, e)
 
-    pub checked-items : placedFrom false (firstItem ws) (items ws) ≡ Passed → checked ws ≡ itemsChecked ws
-    checked-items e = rw (checked-parts ws some, eq-eqb (kind (getD ws 0 0)) 0 first, e)
+      pub checked-items : placedFrom false (firstItem ws) (items ws) ≡ Passed → checked l ws ≡ itemsChecked l ws
+      checked-items e = rw (checked-parts ws some, eq-eqb (kind (getD ws 0 0)) 0 first, e)
 
 -- ---- Of the items: the relation, the lower ends, the number of terms, and each term
 
@@ -178,16 +180,16 @@ relation-few ws h = rw (le-leb (payload (getD ws 1 0)) 3 h) (go (hasRelation ws)
     go true = refl
     go false = refl
 
-pub items-17 : (ws : List ℕ) → hasRelation ws ≡ true → 3 < payload (getD ws 1 0) → itemsChecked ws ≡ Refused (WrongRelation 1)
-items-17 ws e h = rw (e, lt-leb (payload (getD ws 1 0)) 3 h)
+pub items-17 : (l : Limits) (ws : List ℕ) → hasRelation ws ≡ true → 3 < payload (getD ws 1 0) → itemsChecked l ws ≡ Refused (WrongRelation 1)
+items-17 l ws e h = rw (e, lt-leb (payload (getD ws 1 0)) 3 h)
 
-module _ (ws : List ℕ) (relation : relationChecked ws ≡ Passed) where
-  pub items-18 : (x : Refusal) → eachFrom lowerChecked (firstItem ws) (items ws) ≡ Refused x → itemsChecked ws ≡ Refused x
+module _ (l : Limits) (ws : List ℕ) (relation : relationChecked ws ≡ Passed) where
+  pub items-18 : (x : Refusal) → eachFrom lowerChecked (firstItem ws) (items ws) ≡ Refused x → itemsChecked l ws ≡ Refused x
   items-18 x e = rw (relation, e)
 
   module _ (lowers : eachFrom lowerChecked (firstItem ws) (items ws) ≡ Passed) where
-    pub items-3 : upTo mostTerms (length (termsIn ws)) ≡ false → itemsChecked ws ≡ Refused (TermCount (length ws))
+    pub items-3 : upTo (termLimit l) (length (termsIn ws)) ≡ false → itemsChecked l ws ≡ Refused (TermCount (length ws))
     items-3 e = rw (relation, lowers, e)
 
-    pub items-terms : upTo mostTerms (length (termsIn ws)) ≡ true → itemsChecked ws ≡ eachFrom termChecked (firstItem ws) (items ws)
+    pub items-terms : upTo (termLimit l) (length (termsIn ws)) ≡ true → itemsChecked l ws ≡ eachFrom termChecked (firstItem ws) (items ws)
     items-terms e = rw (relation, lowers, e)

@@ -15,7 +15,9 @@ use Rattle.refusal.specs.declared.Checked.{Checked}
 use Rattle.refusal.specs.declared.Checked.the-variants.{Passed}
 use Rattle.refusal.specs.declared.Refusal.the-variants.{NoWords, WrongKind, TermCount, DomainEnd, ZeroCoefficient}
 use Rattle.refusal.proofs.Passes.{refused-fails, both-passed, unless-passed}
-use Rattle.diagram.specs.Constraint.{Limited, AllLimited, Within, lastEnd, mostTerms}
+use Rattle.diagram.specs.Constraint.{Limited, AllLimited, Within, lastEnd}
+use Rattle.limits.specs.declared.Limits.{Limits}
+use Rattle.limits.specs.Limits.{termLimit}
 use Rattle.inequality.specs.Base.{baseTerm}
 use Rattle.constraint_words.specs.Reading.{upTo, isLower, firstItem, items, eachFrom, placedFrom, relationChecked, lowerChecked, countChecked, termChecked, termOf, termsFrom, termsIn, itemsChecked, checked, asWritten, stated}
 
@@ -43,46 +45,46 @@ each-limited l at (w ∷ ws) e =
     go false k c p q = (term-limited l at w k c, q)
 
 -- WHAT WORDS THAT PASS have passed.
-pub record AllPassed (ws : List ℕ) : Type 0 where
+pub record AllPassed (l : Limits) (ws : List ℕ) : Type 0 where
   pub some : 0 < length ws
   pub first : kind (getD ws 0 0) ≡ 0
   pub placed : placedFrom false (firstItem ws) (items ws) ≡ Passed
   pub relation : relationChecked ws ≡ Passed
   pub lowers : eachFrom lowerChecked (firstItem ws) (items ws) ≡ Passed
-  pub count : upTo mostTerms (length (termsIn ws)) ≡ true
+  pub count : upTo (termLimit l) (length (termsIn ws)) ≡ true
   pub terms : eachFrom termChecked (firstItem ws) (items ws) ≡ Passed
 
-pub checked-all : (ws : List ℕ) → checked ws ≡ Passed → AllPassed ws
+pub checked-all : (l : Limits) (ws : List ℕ) → checked l ws ≡ Passed → AllPassed l ws
 unfolding checked
-checked-all [] e = refused-fails NoWords e
-checked-all (w ∷ ws) e =
+checked-all l [] e = refused-fails NoWords e
+checked-all l (w ∷ ws) e =
     let us = w ∷ ws in
     let terms : Checked = eachFrom termChecked (firstItem us) (items us) in
-    let counted : Checked = andThen (countChecked (length us) (length (termsIn us))) terms in
+    let counted : Checked = andThen (countChecked l (length us) (length (termsIn us))) terms in
     let lowers : Checked = andThen (eachFrom lowerChecked (firstItem us) (items us)) counted in
-    let one = both-passed (unless (eqb (kind w) 0) (WrongKind 0)) (andThen (placedFrom false (firstItem us) (items us)) (itemsChecked us)) e in
-    let two = both-passed (placedFrom false (firstItem us) (items us)) (itemsChecked us) (one .1) in
+    let one = both-passed (unless (eqb (kind w) 0) (WrongKind 0)) (andThen (placedFrom false (firstItem us) (items us)) (itemsChecked l us)) e in
+    let two = both-passed (placedFrom false (firstItem us) (items us)) (itemsChecked l us) (one .1) in
     let three = both-passed (relationChecked us) lowers (two .1) in
     let four = both-passed (eachFrom lowerChecked (firstItem us) (items us)) counted (three .1) in
-    let five = both-passed (countChecked (length us) (length (termsIn us))) terms (four .1) in
+    let five = both-passed (countChecked l (length us) (length (termsIn us))) terms (four .1) in
     record {
       some = omega arith;
       first = eqb-true (kind w) 0 (unless-passed (eqb (kind w) 0) (WrongKind 0) (one .0));
       placed = two .0;
       relation = three .0;
       lowers = four .0;
-      count = unless-passed (upTo mostTerms (length (termsIn us))) (TermCount (length us)) (five .0);
+      count = unless-passed (upTo (termLimit l) (length (termsIn us))) (TermCount (length us)) (five .0);
       terms = five .1;
     }
 
--- WORDS THAT PASS state a constraint within document 01's limits.
-pub checked-within : (ws : List ℕ) → checked ws ≡ Passed → Within (stated ws)
+-- WORDS THAT PASS, under whatever limits, state a constraint within document 01's.
+pub checked-within : (l : Limits) (ws : List ℕ) → checked l ws ≡ Passed → Within (stated ws)
 unfolding stated asWritten
-checked-within ws e =
-    let s = checked-all ws e in
-    let count = up-to mostTerms (length (termsIn ws)) (s .count) in
+checked-within l ws e =
+    let s = checked-all l ws e in
+    let count = up-to (termLimit l) (length (termsIn ws)) (s .count) in
     record {
       some = rw length-map (count .0);
-      few = rw length-map (count .1);
+      few = rw length-map (omega (arith, count .1));
       each = each-limited (pos 0) (firstItem ws) (items ws) (s .terms);
     }

@@ -14,7 +14,9 @@ use lib.Seq.{drop-cons, getD-drop}
 use Rattle.word.specs.Word.{kind, payload, half, coefficient, domainEnd}
 use Rattle.refusal.specs.declared.Checked.the-variants.{Passed, Refused}
 use Rattle.refusal.specs.declared.Refusal.the-variants.{TermCount}
-use Rattle.diagram.specs.Constraint.{Term, mostTerms}
+use Rattle.diagram.specs.Constraint.{Term}
+use Rattle.limits.specs.declared.Limits.{Limits}
+use Rattle.limits.specs.Limits.{termLimit}
 use Rattle.inequality.specs.Written.{atMost}
 use Rattle.inequality.specs.Base.{baseTerm, shifts}
 use Rattle.constraint_words.specs.Reading.{upTo, hasRelation, firstItem, items, eachFrom, placedFrom, lowerChecked, termChecked, termsFrom, termsIn, itemsChecked, checked, asWritten, stated}
@@ -114,16 +116,16 @@ module _ (ws : List ℕ) (only : isPlain ws ≡ true) where
   lowers : eachFrom lowerChecked (firstItem ws) (items ws) ≡ Passed
   lowers = rw first-one (no-lowers 1 (drop 1 ws) (count-plain (drop 1 ws) rest-plain))
 
-  module _ (first : kind (getD ws 0 0) ≡ 0) where
-    plain-parts : checked ws ≡ itemsChecked ws
-    plain-parts = checked-items ws (omega (arith, plain-count)) first placed
+  module _ (l : Limits) (first : kind (getD ws 0 0) ≡ 0) where
+    plain-parts : checked l ws ≡ itemsChecked l ws
+    plain-parts = checked-items l ws (omega (arith, plain-count)) first placed
 
-    pub plain-3 : upTo mostTerms (length ws - 1) ≡ false → checked ws ≡ Refused (TermCount (length ws))
-    plain-3 e = plain-parts ∙ items-3 ws (relation-none ws not-related) lowers (rw terms-count e)
+    pub plain-3 : upTo (termLimit l) (length ws - 1) ≡ false → checked l ws ≡ Refused (TermCount (length ws))
+    plain-3 e = plain-parts ∙ items-3 l ws (relation-none ws not-related) lowers (rw terms-count e)
 
-    pub plain-terms : upTo mostTerms (length ws - 1) ≡ true → checked ws ≡ eachFrom termChecked 1 (drop 1 ws)
+    pub plain-terms : upTo (termLimit l) (length ws - 1) ≡ true → checked l ws ≡ eachFrom termChecked 1 (drop 1 ws)
     plain-terms e =
-        plain-parts ∙ items-terms ws (relation-none ws not-related) lowers (rw terms-count e)
+        plain-parts ∙ items-terms l ws (relation-none ws not-related) lowers (rw terms-count e)
         ∙ ap (λ (f : ℕ). eachFrom termChecked f (drop f ws)) first-one
 
 -- ---- The constraint

@@ -12,6 +12,7 @@ use Rattle.word.specs.Word.{payload, payloads, half, lessHalf}
 use Rattle.refusal.specs.declared.Checked.the-variants.{Passed}
 use Rattle.refusal.specs.declared.Refusal.the-variants.{LowerEnd}
 use Rattle.refusal.proofs.Passes.{both-passed, unless-passed}
+use Rattle.limits.specs.declared.Limits.{Limits}
 use Rattle.inequality.specs.Written.{farthestLower}
 use Rattle.inequality.specs.Base.{baseTerm}
 use Rattle.inequality.proofs.Range.{AllNear, farthestBound, base-range}
@@ -50,8 +51,8 @@ bound-near ws = go (hasRelation ws)
     go false = omega arith
 
 -- THE RANGE
-pub stated-range : (ws : List ℕ) → checked ws ≡ Passed → natAbs (stated ws .bound) ≤ farthestBound
+pub stated-range : (l : Limits) (ws : List ℕ) → checked l ws ≡ Passed → natAbs (stated ws .bound) ≤ farthestBound
 unfolding stated asWritten
-stated-range ws e =
-    let w = checked-within ws e in
-    base-range (asWritten ws) (w .each) (each-near (pos 0) (firstItem ws) (items ws) (omega arith) (checked-all ws e .lowers)) (omega (arith, w .few, length-map (termsIn ws) baseTerm)) (bound-near ws)
+stated-range l ws e =
+    let w = checked-within l ws e in
+    base-range (asWritten ws) (w .each) (each-near (pos 0) (firstItem ws) (items ws) (omega arith) (checked-all l ws e .lowers)) (omega (arith, w .few, length-map (termsIn ws) baseTerm)) (bound-near ws)

@@ -13,7 +13,9 @@ use Rattle.refusal.specs.declared.Refusal.{Refusal}
 use Rattle.refusal.specs.declared.Checked.{Checked}
 use Rattle.refusal.specs.declared.Checked.the-variants.{Passed, Refused}
 use Rattle.refusal.specs.declared.Refusal.the-variants.{NoWords, WrongKind, TermCount, DomainEnd, ZeroCoefficient, WrongRelation, LowerEnd}
-use Rattle.diagram.specs.Constraint.{mostTerms, lastEnd}
+use Rattle.diagram.specs.Constraint.{lastEnd}
+use Rattle.limits.specs.declared.Limits.{Limits}
+use Rattle.limits.specs.Limits.{termLimit}
 use Rattle.inequality.specs.Written.{farthestLower}
 use Rattle.constraint_words.specs.Reading.{upTo, isLower, hasRelation, firstItem, items, eachFrom, canStand, placedFrom, relationChecked, lowerChecked, countChecked, termChecked, termsIn, checked}
 use Rattle.constraint_words.proofs.Items.{first-within}
@@ -70,10 +72,10 @@ module _ (P : Refusal → Type 0) where
         (said-unless (upTo lastEnd (domainEnd w)) (DomainEnd at) (o .ends at h)) (said-unless (leb 1 (coefficient w)) (ZeroCoefficient at) (o .coefficients at h)))
 
   -- THE REFUSAL OF WORDS is one of theirs
-  pub said : (ws : List ℕ) → OfWords P (length ws) → Said (checked ws)
+  pub said : (l : Limits) (ws : List ℕ) → OfWords P (length ws) → Said (checked l ws)
   unfolding checked
-  said [] o = o .none
-  said (w ∷ ws) o =
+  said l [] o = o .none
+  said l (w ∷ ws) o =
       let us = w ∷ ws in
       let n = length us in
       let first = firstItem us in
@@ -83,13 +85,13 @@ module _ (P : Refusal → Type 0) where
       (said-then (placedFrom false first (items us)) _ (said-placed n o false first (items us) h)
       (said-then (relationChecked us) _ (said-unless (not (hasRelation us) || leb (payload (getD us 1 0)) 3) (WrongRelation 1) (o .relation some))
       (said-then (eachFrom lowerChecked first (items us)) _ (said-each n lowerChecked (said-lower n o) first (items us) h)
-      (said-then (countChecked n (length (termsIn us))) _ (said-unless (upTo mostTerms (length (termsIn us))) (TermCount n) (o .count))
+      (said-then (countChecked l n (length (termsIn us))) _ (said-unless (upTo (termLimit l) (length (termsIn us))) (TermCount n) (o .count))
       (said-each n termChecked (said-term n o) first (items us) h)))))
 
 -- ITS NUMBER is one of those that leave lent memory untouched,
-pub early : (ws : List ℕ) → Said (λ x. ofWords (numberOf x) ≡ true) (checked ws)
-early ws =
-    said (λ x. ofWords (numberOf x) ≡ true) ws
+pub early : (l : Limits) (ws : List ℕ) → Said (λ x. ofWords (numberOf x) ≡ true) (checked l ws)
+early l ws =
+    said (λ x. ofWords (numberOf x) ≡ true) l ws
     (record {
       none = refl;
       kinds = λ at h. refl;
@@ -101,9 +103,9 @@ early ws =
     })
 
 -- and ITS PLACE is one of the list, or its length.
-pub placed-within : (ws : List ℕ) → Said (λ x. placeOf x ≤ length ws) (checked ws)
-placed-within ws =
-    said (λ x. placeOf x ≤ length ws) ws
+pub placed-within : (l : Limits) (ws : List ℕ) → Said (λ x. placeOf x ≤ length ws) (checked l ws)
+placed-within l ws =
+    said (λ x. placeOf x ≤ length ws) l ws
     (record {
       none = omega arith;
       kinds = λ at h. h;

@@ -11,7 +11,9 @@ use Rattle.refusal.specs.Table.{andThen, unless}
 use Rattle.refusal.specs.declared.Checked.{Checked}
 use Rattle.refusal.specs.declared.Checked.the-variants.{Passed, Refused}
 use Rattle.refusal.specs.declared.Refusal.the-variants.{NoWords, WrongKind, TermCount, DomainEnd, ZeroCoefficient, WrongRelation, LowerEnd}
-use Rattle.diagram.specs.Constraint.{Constraint, mostTerms, lastEnd}
+use Rattle.diagram.specs.Constraint.{Constraint, lastEnd}
+use Rattle.limits.specs.declared.Limits.{Limits}
+use Rattle.limits.specs.Limits.{termLimit}
 use Rattle.inequality.specs.Written.{Relation, atMost, lessThan, atLeast, greaterThan, SignedTerm, Inequality, farthestLower}
 use Rattle.inequality.specs.Base.{baseForm}
 
@@ -59,9 +61,9 @@ relationChecked ws = unless (not (hasRelation ws) || leb (payload (getD ws 1 0))
 abbrev pub lowerChecked : ℕ → ℕ → Checked
 lowerChecked at w = unless (not (isLower w) || leb (natAbs (lessHalf w)) farthestLower) (LowerEnd at)
 
--- Refusal 3: the number of terms; its place is the number of words.
-abbrev pub countChecked : ℕ → ℕ → Checked
-countChecked words n = unless (upTo mostTerms n) (TermCount words)
+-- Refusal 3: the number of terms, by the caller's limit; its place is the number of words.
+abbrev pub countChecked : Limits → ℕ → ℕ → Checked
+countChecked l words n = unless (upTo (termLimit l) n) (TermCount words)
 
 -- Refusals 4 and 5 of an item, by its place: of a term first the domain end, then the coefficient.
 abbrev pub termChecked : ℕ → ℕ → Checked
@@ -83,19 +85,19 @@ termsFrom l (w ∷ ws) =
 abbrev pub termsIn : List ℕ → List SignedTerm
 termsIn ws = termsFrom (pos 0) (items ws)
 
--- THE CHECK of constraint words: 1, then 2 over the whole list, then 17, then 18 (the relation stands before all lower ends, so the earlier word comes first),
+-- THE CHECK of constraint words under the limits of a call: 1, then 2 over the whole list, then 17, then 18 (the relation stands before all lower ends, so the earlier word comes first),
 -- then 3, then 4 and 5 term by term.
-abbrev pub itemsChecked : List ℕ → Checked
-itemsChecked ws =
+abbrev pub itemsChecked : Limits → List ℕ → Checked
+itemsChecked l ws =
     andThen (relationChecked ws)
     (andThen (eachFrom lowerChecked (firstItem ws) (items ws))
-    (andThen (countChecked (length ws) (length (termsIn ws))) (eachFrom termChecked (firstItem ws) (items ws))))
+    (andThen (countChecked l (length ws) (length (termsIn ws))) (eachFrom termChecked (firstItem ws) (items ws))))
 
-unfoldable pub checked : List ℕ → Checked
-checked [] = Refused NoWords
-checked (w ∷ ws) =
+unfoldable pub checked : Limits → List ℕ → Checked
+checked l [] = Refused NoWords
+checked l (w ∷ ws) =
     andThen (unless (eqb (kind w) 0) (WrongKind 0))
-    (andThen (placedFrom false (firstItem (w ∷ ws)) (items (w ∷ ws))) (itemsChecked (w ∷ ws)))
+    (andThen (placedFrom false (firstItem (w ∷ ws)) (items (w ∷ ws))) (itemsChecked l (w ∷ ws)))
 
 -- The relation of a number, of which none above 3 passes; it is at most where none is given. And the bound.
 abbrev pub relationOf : ℕ → Relation

@@ -6,16 +6,16 @@ use native.Mathlib.Omega.{arith}
 use lib.IntN.{ℤ}
 use lib.ListN.{length}
 use borrow.Author.Tests.{lt-ltb, le-ltb}
-use Rattle.word.specs.Word.{lastBoolean}
 use Rattle.word.specs.Edge.{Edge}
 use Rattle.refusal.specs.declared.Refusal.{Refusal}
-use Rattle.refusal.specs.declared.Refusal.the-variants.{TooManyNodes, TooManyEdges, TooManyWords, TooManyBooleans}
+use Rattle.refusal.specs.declared.Refusal.the-variants.{TooManyNodes, TooManyEdges, TooManyWords}
 use Rattle.diagram.proofs.Terms.{levels-length}
 use Rattle.word.specs.Record.{labelled}
 use Rattle.diagram.specs.Flat.{edgeCount}
 use Rattle.diagram.specs.Constraint.{Constraint}
-use Rattle.encoding.specs.Boolean.{orders}
 use Rattle.encoding.specs.Pattern.{wordCount}
+use Rattle.limits.specs.declared.Limits.{Limits}
+use Rattle.limits.specs.Limits.{nodeLimit}
 use Rattle.constraint.specs.Lent.{termsOf, Lent}
 use Rattle.constraint.proofs.Slices.{levels-count}
 use Rattle.linker.specs.Sum.{endSum, Countable}
@@ -32,41 +32,34 @@ use Rattle.encoder_levels.specs.Passes.{Cleared, Answered}
 abbrev pub countsOf : Constraint → Counts
 countsOf c = record { nodes = length (nodesFor c); edges = edgeCount (levelsIn c) (nodesFor c); words = wordCount (levelsIn c) (nodesFor c) }
 
-module _ (c : Constraint) (t e w : ℕ) where
-  pub refuse-6 : capacity t < length (nodesFor c) → countsWithin c t e w ≡ Refused TooManyNodes
+module _ (l : Limits) (c : Constraint) (t e w : ℕ) where
+  pub refuse-6 : capacity l t < length (nodesFor c) → countsWithin l c t e w ≡ Refused TooManyNodes
   unfolding countsWithin
-  refuse-6 h = rw (lt-ltb (capacity t) (length (nodesFor c)) h)
+  refuse-6 h = rw (lt-ltb (capacity l t) (length (nodesFor c)) h)
 
-  module _ (h : length (nodesFor c) ≤ capacity t) where
-    pub refuse-7 : e < edgeCount (levelsIn c) (nodesFor c) → countsWithin c t e w ≡ Refused TooManyEdges
+  module _ (h : length (nodesFor c) ≤ capacity l t) where
+    pub refuse-7 : e < edgeCount (levelsIn c) (nodesFor c) → countsWithin l c t e w ≡ Refused TooManyEdges
     unfolding countsWithin
-    refuse-7 k = rw (le-ltb (capacity t) (length (nodesFor c)) h, lt-ltb e (edgeCount (levelsIn c) (nodesFor c)) k)
+    refuse-7 k = rw (le-ltb (capacity l t) (length (nodesFor c)) h, lt-ltb e (edgeCount (levelsIn c) (nodesFor c)) k)
 
     module _ (k : edgeCount (levelsIn c) (nodesFor c) ≤ e) where
-      pub refuse-8 : w < wordCount (levelsIn c) (nodesFor c) → countsWithin c t e w ≡ Refused TooManyWords
+      pub refuse-8 : w < wordCount (levelsIn c) (nodesFor c) → countsWithin l c t e w ≡ Refused TooManyWords
       unfolding countsWithin
-      refuse-8 l = rw (le-ltb (capacity t) (length (nodesFor c)) h, le-ltb e (edgeCount (levelsIn c) (nodesFor c)) k, lt-ltb w (wordCount (levelsIn c) (nodesFor c)) l)
+      refuse-8 m = rw (le-ltb (capacity l t) (length (nodesFor c)) h, le-ltb e (edgeCount (levelsIn c) (nodesFor c)) k, lt-ltb w (wordCount (levelsIn c) (nodesFor c)) m)
 
-      module _ (l : wordCount (levelsIn c) (nodesFor c) ≤ w) where
-        pub refuse-9 : lastBoolean < orders (levelsIn c) + 2 + length (nodesFor c) → countsWithin c t e w ≡ Refused TooManyBooleans
-        unfolding countsWithin
-        refuse-9 m =
-            rw (le-ltb (capacity t) (length (nodesFor c)) h, le-ltb e (edgeCount (levelsIn c) (nodesFor c)) k, le-ltb w (wordCount (levelsIn c) (nodesFor c)) l, lt-ltb lastBoolean (orders (levelsIn c) + 2 + length (nodesFor c)) m)
-
-        pub accept : orders (levelsIn c) + 2 + length (nodesFor c) ≤ lastBoolean → countsWithin c t e w ≡ Accepted (countsOf c)
-        unfolding countsWithin
-        accept m =
-            rw (le-ltb (capacity t) (length (nodesFor c)) h, le-ltb e (edgeCount (levelsIn c) (nodesFor c)) k, le-ltb w (wordCount (levelsIn c) (nodesFor c)) l, le-ltb lastBoolean (orders (levelsIn c) + 2 + length (nodesFor c)) m)
+      pub accept : wordCount (levelsIn c) (nodesFor c) ≤ w → countsWithin l c t e w ≡ Accepted (countsOf c)
+      unfolding countsWithin
+      accept m = rw (le-ltb (capacity l t) (length (nodesFor c)) h, le-ltb e (edgeCount (levelsIn c) (nodesFor c)) k, le-ltb w (wordCount (levelsIn c) (nodesFor c)) m)
 
 -- a reply with zeroed lists, and one with filled lists
-pub refused-answer : (c : Constraint) (x : Refusal) (t e w t′ e′ w′ : List ℕ) (r : Encoded) → countsWithin c (length t) (length e) (length w) ≡ Refused x
-    → Cleared x t e w t′ e′ w′ r → Answered c t e w t′ e′ w′ r
-refused-answer c x t e w t′ e′ w′ r q C =
-    subst (Answered c t e w t′ e′ w′) (sym (C .reply)) (record { reply = sym q; table = C .table; edges = C .edges; clauses = C .clauses })
+pub refused-answer : (l : Limits) (c : Constraint) (x : Refusal) (t e w t′ e′ w′ : List ℕ) (r : Encoded) → countsWithin l c (length t) (length e) (length w) ≡ Refused x
+    → Cleared x t e w t′ e′ w′ r → Answered l c t e w t′ e′ w′ r
+refused-answer l c x t e w t′ e′ w′ r q C =
+    subst (Answered l c t e w t′ e′ w′) (sym (C .reply)) (record { reply = sym q; table = C .table; edges = C .edges; clauses = C .clauses })
 
-pub accepted-answer : (c : Constraint) (n : Counts) (t e w t′ e′ w′ : List ℕ) → countsWithin c (length t) (length e) (length w) ≡ Accepted n
-    → Filled c t e w t′ e′ w′ → Answered c t e w t′ e′ w′ (Accepted n)
-accepted-answer c n t e w t′ e′ w′ q F = record { reply = sym q; table = F .table; edges = F .edges; clauses = F .clauses }
+pub accepted-answer : (l : Limits) (c : Constraint) (n : Counts) (t e w t′ e′ w′ : List ℕ) → countsWithin l c (length t) (length e) (length w) ≡ Accepted n
+    → Filled c t e w t′ e′ w′ → Answered l c t e w t′ e′ w′ (Accepted n)
+accepted-answer l c n t e w t′ e′ w′ q F = record { reply = sym q; table = F .table; edges = F .edges; clauses = F .clauses }
 
 -- ---- The counts from the sum over the records
 
@@ -80,8 +73,8 @@ module _ {cs ds rs : List ℕ} (L : Lent cs ds rs) {a : ℤ} {D : ℕ} {t : List
   pub ends-le : length ds ≤ D
   ends-le = omega (arith, order-words (termsOf cs ds) (L .limited) .1, levels-length (termsOf cs ds), levels-count cs ds rs L, L .ends, B .booleans)
 
-  pub nodes-fit : length (nodesFor c) ≤ capacity (length t)
-  nodes-fit = omega (arith, B .counted, B .few, B .room)
+  pub nodes-fit : (l : Limits) → count ≤ nodeLimit l → length (nodesFor c) ≤ capacity l (length t)
+  nodes-fit l h = omega (arith, B .counted, B .room)
 
   -- the counts that the code computes are the diagram's
   pub counts-are : countsBy ds D (labelled t count) count ≡ countsOf c

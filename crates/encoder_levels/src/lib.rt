@@ -1,29 +1,28 @@
-// From the levels of a constraint to the three lists: the diagram built, refusals 6 to 9 by its own counts, and the lists filled.
+// From the levels of a constraint to the three lists: the diagram built, refusals 6 to 8 by its own counts, and the lists filled.
 use builder::Root;
 use constraint_bound::Bound;
 use filler::Counts;
+use limits::Limits;
 use refusal::Refusal;
 use word::Child;
-use word::LAST_BOOLEAN;
 use word::NODES;
 use word::NodeNumber;
 use word::RECORD;
 use word::Remainder;
 ghost use mathlib.Core.Path.{_≡_};
-ghost use Prim.Native.Nat.{_+_, _<_};
-ghost use lib.IntN.{ℤ, pos};
+ghost use Prim.Native.Nat.{_≤_, _<_};
+ghost use lib.IntN.{ℤ};
 ghost use Rattle.word.specs.Edge.{edgeOf};
 ghost use Rattle.diagram.specs.Level.{R};
 ghost use Rattle.encoding.specs.Boolean.{orders as orders′};
+ghost use Rattle.limits.specs.declared.Limits.{Limits as Limits′};
+ghost use Rattle.limits.specs.Limits.{nodeLimit};
 ghost use Rattle.constraint_bound.specs.Bound.{boundOf};
 ghost use Rattle.constraint.specs.Lent.{levelsOf, Lent};
 ghost use Rattle.builder.specs.Built.{RootOk};
 ghost use Rattle.encoder_levels.specs.Reply.{capacity};
-ghost use Rattle.encoder_levels.specs.Passes.{Cleared, Answered};
+ghost use Rattle.encoder_levels.specs.Passes.{Cleared, DrawnFor, Answered};
 ghost use Rattle.filler.specs.Filled.{constraintOf, Tabled};
-
-// The greatest Boolean that a literal can hold.
-const BOOLEANS: usize = LAST_BOOLEAN as usize;
 
 // The words that a call has of its own for merging.
 const OWN: usize = 64;
@@ -34,12 +33,25 @@ pub enum Encoded {
     Refused(Refusal),
 }
 
+// The root of a drawn table, and the number of its nodes.
+struct Top {
+    root: Child,
+    nodes: usize,
+}
+
+// A drawn table, or one without room for all nodes.
+enum Drawn {
+    Full,
+    Rooted(Top),
+}
+
 // The node capacity of a table of n words.
-fn room(n: usize) -> usize
-    ensures { λ r. ⌜ r ≡ capacity n ⌝ }
+fn room(limits: Limits, n: usize) -> usize
+    ensures { λ r. ⌜ r ≡ capacity limits n ⌝ }
 {
     let full = n / RECORD;
-    if full < NODES { full } else { NODES }
+    let most = limits::counted_as(limits.nodes, NODES);
+    if full < most { full } else { most }
 }
 
 // All three lists zeroed, and the refusal.
@@ -52,7 +64,7 @@ fn refuse(x: Refusal, table: &mut [u32], edges: &mut [u32], clauses: &mut [u32])
     Encoded::Refused(x)
 }
 
-// Refusals 7 to 9 by the diagram's own counts, or the lists filled, for a table that is built.
+// Refusals 7 and 8 by the diagram's own counts, or the lists filled, for a table that is built within the limits.
 fn finish<'a>(
     coefs: &'a [u32],
     ends: &'a [u32],
@@ -66,8 +78,8 @@ fn finish<'a>(
 ) -> Encoded
     requires { ⌜ Lent (now coefs) (now ends) (now rests) ⌝ }
     requires { ⌜ ((a : ℤ) × Tabled (constraintOf (now coefs) (now ends) a) orders (edgeOf root) (now table) nodes) ⌝ }
-    ensures { λ r. ⌜ ((a : ℤ) → Tabled (constraintOf (now (coefs .entry)) (now (ends .entry)) a) orders (edgeOf root) (now (table .entry)) nodes
-        → Answered (constraintOf (now (coefs .entry)) (now (ends .entry)) a) (now (table .entry)) (now (edges .entry)) (now (clauses .entry)) (now (table .exit)) (now (edges .exit)) (now (clauses .exit)) r) ⌝ }
+    ensures { λ r. ⌜ ((l : Limits′) (a : ℤ) → nodes ≤ nodeLimit l → Tabled (constraintOf (now (coefs .entry)) (now (ends .entry)) a) orders (edgeOf root) (now (table .entry)) nodes
+        → Answered l (constraintOf (now (coefs .entry)) (now (ends .entry)) a) (now (table .entry)) (now (edges .entry)) (now (clauses .entry)) (now (table .exit)) (now (edges .exit)) (now (clauses .exit)) r) ⌝ }
 {
     let counts = filler::count(ends, orders, table, nodes);
     if edges.len() < counts.edges {
@@ -75,9 +87,6 @@ fn finish<'a>(
     }
     if clauses.len() < counts.words {
         return refuse(Refusal::TooManyWords, table, edges, clauses);
-    }
-    if BOOLEANS < orders as usize + 2 + nodes {
-        return refuse(Refusal::TooManyBooleans, table, edges, clauses);
     }
     filler::fill(
         coefs,
@@ -113,41 +122,49 @@ fn build_root<'a>(
     builder::build(coefs, ends, rests, table, clauses, bound)
 }
 
-// The reply for an undecided bound: its diagram built into the table's capacity, and the lists filled from it.
-fn encode_undecided<'a>(
+// What is drawn into the table for a bound: below 0 it makes the root F, from the greatest sum on T, both without nodes; else it is undecided, and its diagram is
+// built into the table's capacity under the limits. The undecided bound stands first, which the compiler goes by: so it takes the search into the building
+// and not into the linking.
+fn draw<'a>(
+    limits: Limits,
     coefs: &'a [u32],
     ends: &'a [u32],
     rests: &'a [u32],
-    orders: u32,
-    bound: Remainder,
+    bound: Bound,
     table: &mut [u32],
-    edges: &mut [u32],
     clauses: &mut [u32],
-) -> Encoded
-    requires { ⌜ Lent (now coefs) (now ends) (now rests) × (bound .0 < R (levelsOf (now coefs) (now ends))) ⌝ }
-    requires { ⌜ orders ≡ orders′ (levelsOf (now coefs) (now ends)) ⌝ }
-    ensures { λ r. ⌜ Answered (constraintOf (now (coefs .entry)) (now (ends .entry)) (pos (bound .0))) (now (table .entry)) (now (edges .entry)) (now (clauses .entry)) (now (table .exit)) (now (edges .exit)) (now (clauses .exit)) r ⌝ }
+) -> Drawn
+    requires { ⌜ Lent (now coefs) (now ends) (now rests) ⌝ }
+    ensures { λ r. ⌜ ((a : ℤ) → bound ≡ boundOf a → DrawnFor limits (now (coefs .entry)) (now (ends .entry)) a (now (table .entry)) (now (table .exit)) r) ⌝ }
 {
-    let limit = room(table.len()) * RECORD;
-    match build_root(coefs, ends, rests, &mut table[..limit], clauses, bound) {
-        Root::Full => refuse(Refusal::TooManyNodes, table, edges, clauses),
-        Root::Node(n) => finish(
-            coefs,
-            ends,
-            rests,
-            orders,
-            Child::Node(NodeNumber(0)),
-            n,
-            table,
-            edges,
-            clauses,
-        ),
+    match bound {
+        Bound::Natural(b) => {
+            if b < rests[0] as u64 {
+                let past = room(limits, table.len()) * RECORD;
+                let r = Remainder(b as u32);
+                return match build_root(coefs, ends, rests, &mut table[..past], clauses, r) {
+                    Root::Full => Drawn::Full,
+                    Root::Node(n) => Drawn::Rooted(Top {
+                        root: Child::Node(NodeNumber(0)),
+                        nodes: n,
+                    }),
+                };
+            }
+            Drawn::Rooted(Top {
+                root: Child::True,
+                nodes: 0,
+            })
+        }
+        Bound::Negative => Drawn::Rooted(Top {
+            root: Child::False,
+            nodes: 0,
+        }),
     }
 }
 
-// The reply for the constraint of the slices: below 0 the bound makes the root F, from the greatest sum on T, both without nodes; else it is undecided.
-// The undecided bound stands first, which the compiler goes by: so it takes the search into the building and not into the linking.
+// The reply for the constraint of the slices: what is drawn, and the lists filled from it.
 pub fn encode_levels<'a>(
+    limits: Limits,
     coefs: &'a [u32],
     ends: &'a [u32],
     rests: &'a [u32],
@@ -160,36 +177,23 @@ pub fn encode_levels<'a>(
     requires { ⌜ Lent (now coefs) (now ends) (now rests) ⌝ }
     requires { ⌜ orders ≡ orders′ (levelsOf (now coefs) (now ends)) ⌝ }
     ensures { λ r. ⌜ ((a : ℤ) → bound ≡ boundOf a
-        → Answered (constraintOf (now (coefs .entry)) (now (ends .entry)) a) (now (table .entry)) (now (edges .entry)) (now (clauses .entry)) (now (table .exit)) (now (edges .exit)) (now (clauses .exit)) r) ⌝ }
+        → Answered limits (constraintOf (now (coefs .entry)) (now (ends .entry)) a) (now (table .entry)) (now (edges .entry)) (now (clauses .entry)) (now (table .exit)) (now (edges .exit)) (now (clauses .exit)) r) ⌝ }
 {
-    match bound {
-        Bound::Natural(b) => {
-            if b < rests[0] as u64 {
-                let r = Remainder(b as u32);
-                return encode_undecided(coefs, ends, rests, orders, r, table, edges, clauses);
-            }
+    match draw(limits, coefs, ends, rests, bound, table, clauses) {
+        Drawn::Full => refuse(Refusal::TooManyNodes, table, edges, clauses),
+        Drawn::Rooted(x) => {
+            let root = x.root;
             finish(
                 coefs,
                 ends,
                 rests,
                 orders,
-                Child::True,
-                0,
+                root,
+                x.nodes,
                 table,
                 edges,
                 clauses,
             )
         }
-        Bound::Negative => finish(
-            coefs,
-            ends,
-            rests,
-            orders,
-            Child::False,
-            0,
-            table,
-            edges,
-            clauses,
-        ),
     }
 }

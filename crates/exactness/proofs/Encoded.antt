@@ -1,12 +1,11 @@
 -- UNIT PROPAGATION IS EXACT ON THE ENCODER'S LIST: on the clause words that an accepted encoding call has left, a call of the propagator that is not refused
 -- tells all that the constraint as written says. Assumes nothing.
-use mathlib.Core.Path.{_≡_, sym, ap, subst, _∙_}
+use mathlib.Core.Path.{_≡_, sym, subst}
 use mathlib.Core.List.{List}
 use Prim.Native.Nat.{ℕ, _+_, _≤_}
 use native.Mathlib.Omega.{arith}
 use lib.ListN.{length, take}
 use Rattle.word.specs.Record.{mostNodes}
-use Rattle.word.specs.Padded.{padded}
 use Rattle.refusal.specs.declared.Refusal.{Refusal}
 use Rattle.refusal.specs.declared.Checked.the-variants as check
 use Rattle.diagram.specs.Constraint.{Within}
@@ -17,16 +16,16 @@ use Rattle.encoding.specs.Claim.{Solves}
 use Rattle.encoding.proofs.Demand.{last-boolean, words-legal}
 use Rattle.inequality.specs.Claim.{baseLevels, SolvesWritten}
 use Rattle.inequality.proofs.Demand.{solves-written}
+use Rattle.limits.specs.declared.Limits.{Limits}
 use Rattle.constraint_words.specs.Reading.{checked, asWritten, stated}
 use Rattle.constraint_words.proofs.Laws.{checked-within}
 use Rattle.filler.specs.declared.Counts.{Counts}
 use Rattle.filler.specs.Filled.{levelsIn, nodesFor, rootFor, clausesFor}
 use Rattle.encoder_levels.specs.declared.Encoded.the-variants.{Accepted}
 use Rattle.encoder_levels.specs.Reply.{countsWithin}
-use Rattle.encoder_levels.proofs.Answers.{countsOf, same-nodes, same-words}
+use Rattle.encoder_levels.proofs.Answers.{countsOf, same-nodes}
 use Rattle.encoder.specs.Promise.{Promise}
-use Rattle.encoder.proofs.Answers.{accepted-few, accepted-passed}
-use Rattle.encoder.proofs.Meant.{words-taken}
+use Rattle.encoder.proofs.Answers.{promise-passed, promise-counted, promise-words}
 use Rattle.clause.specs.Meaning.{Values, clausesOf}
 use Rattle.propagation.specs.Derived.{Bytes}
 use Rattle.propagation.specs.Propagated.{propagated}
@@ -58,30 +57,23 @@ module _ (ws : List ℕ) (within : Within (stated ws)) (few : length (nodesFor (
       (words-exact (levelsIn c) (c .bound) (nodesFor c) (rootFor c) (levels-ascend (c .terms)) (table-right (levelsIn c) (c .bound) (levels-ascend (c .terms)))
       (last-boolean c within few) bs (t .0 .0) (t .0 .1) aux)
 
--- AN ACCEPTED CALL of the encoder, by its promise
-module _ (ws t e w t′ e′ w′ : List ℕ) (n : Counts) (p : Promise ws t e w t′ e′ w′ (Accepted n)) where
-  passed : (checked ws ≡ check.Passed) × (Accepted n ≡ countsWithin (stated ws) (length t) (length e) (length w))
-  passed = accepted-passed ws (length t) (length e) (length w) n (p .reply .same)
+-- AN ACCEPTED CALL of the encoder, under whatever limits, by its promise
+module _ (l : Limits) (ws t e w t′ e′ w′ : List ℕ) (n : Counts) (p : Promise l ws t e w t′ e′ w′ (Accepted n)) where
+  passed : (checked l ws ≡ check.Passed) × (Accepted n ≡ countsWithin l (stated ws) (length t) (length e) (length w))
+  passed = promise-passed l ws t e w t′ e′ w′ n p
 
   within : Within (stated ws)
-  within = checked-within ws (passed .0)
+  within = checked-within l ws (passed .0)
 
   counted : (length (nodesFor (stated ws)) ≤ mostNodes) × (n ≡ countsOf (stated ws))
-  counted = accepted-few (stated ws) (length t) (length e) (length w) n (passed .1)
-
-  -- the clause words are the first in the list
-  list-is : take (n .words) w′ ≡ clausesFor (stated ws)
-  list-is =
-      ap (take (n .words)) (p .clauses)
-      ∙ ap (λ (k : ℕ). take k (padded (length w) (clausesFor (stated ws)))) (same-words (counted .1))
-      ∙ words-taken (stated ws) within (counted .0) (length w)
+  counted = promise-counted l ws t e w t′ e′ w′ n p
 
   -- THE CALL IS NOT REFUSED with a byte of 0 to 2 for each Boolean of the list and a buffer of that length
   pub encoded-passes : (bs : List ℕ) (room : ℕ) → orders (baseLevels (asWritten ws)) + 2 + n .nodes ≤ length bs → Bytes bs → room ≡ length bs
       → inputChecked bs (take (n .words) w′) room ≡ check.Passed
   unfolding stated
   encoded-passes bs room size legal same =
-      subst (λ (x : List ℕ). inputChecked bs x room ≡ check.Passed) (sym list-is)
+      subst (λ (x : List ℕ). inputChecked bs x room ≡ check.Passed) (sym (promise-words l ws t e w t′ e′ w′ n p))
       (call-passes bs (clausesFor (stated ws)) room legal
       (words-legal (stated ws) within (counted .0) (length bs) (omega (arith, size, same-nodes (counted .1)))) same)
 
@@ -90,7 +82,7 @@ module _ (ws t e w t′ e′ w′ : List ℕ) (n : Counts) (p : Promise ws t e w
       → Propagates bs (take (n .words) w′) before after r → ((x : Refusal) → ¬ (r ≡ Unfit x))
       → ExactCall (SolvesWritten (asWritten ws)) (orders (baseLevels (asWritten ws))) bs after r
   encoded-exact bs before after r aux q h =
-      let promise = subst (λ (x : List ℕ). Propagates bs x before after r) list-is q in
+      let promise = subst (λ (x : List ℕ). Propagates bs x before after r) (promise-words l ws t e w t′ e′ w′ n p) q in
       let passes = not-refused bs (clausesFor (stated ws)) before after r promise h in
       call-exact (SolvesWritten (asWritten ws)) (orders (baseLevels (asWritten ws))) bs (clausesFor (stated ws)) before after r passes promise
       (written-exact ws within (counted .0) bs (length before) passes

@@ -23,6 +23,7 @@ use Rattle.diagram.proofs.Terms.{levels-ascend}
 use Rattle.encoding.specs.Pattern.{clauseWords}
 use Rattle.inequality.specs.Claim.{AdmitsWritten}
 use Rattle.inequality.proofs.Demand.{admits-written}
+use Rattle.limits.specs.Limits.{mainLimits}
 use Rattle.constraint_words.specs.Reading.{checked, asWritten, stated}
 use Rattle.constraint_words.proofs.Laws.{checked-within}
 use Rattle.constraint_words.proofs.Refusals.{Said, early}
@@ -45,18 +46,18 @@ module _ (ws t es : List ℕ) where
   xs = records t
 
   -- YES
-  pub says-right : markedReply ws t es ≡ Passed ↔ ((checked ws ≡ Passed) × RightHandIn ls a xs es)
+  pub says-right : markedReply ws t es ≡ Passed ↔ ((checked mainLimits ws ≡ Passed) × RightHandIn ls a xs es)
   unfolding markedReply
   says-right = (
-    λ p. let q = both-passed (checked ws) (judged ls a xs es) p in (q .0, passes-right ls a xs es .0 (q .1)),
+    λ p. let q = both-passed (checked mainLimits ws) (judged ls a xs es) p in (q .0, passes-right ls a xs es .0 (q .1)),
     λ p. rw (p .0) (passes-right ls a xs es .1 (p .1)),
   )
 
   -- REFUSAL 20
-  pub says-bad : (n : ℕ) → markedReply ws t es ≡ Refused (BadRecord n) ↔ ((checked ws ≡ Passed) × FirstBad ls a xs es n)
+  pub says-bad : (n : ℕ) → markedReply ws t es ≡ Refused (BadRecord n) ↔ ((checked mainLimits ws ≡ Passed) × FirstBad ls a xs es n)
   unfolding markedReply
   says-bad n = (
-    λ p. let q = go (checked ws) (early ws) p in (q .0, names-bad ls a xs es n .0 (q .1)),
+    λ p. let q = go (checked mainLimits ws) (early mainLimits ws) p in (q .0, names-bad ls a xs es n .0 (q .1)),
     λ p. rw (p .0) (names-bad ls a xs es n .1 (p .1)),
   )
     where
@@ -66,7 +67,7 @@ module _ (ws t es : List ℕ) where
       go (Refused x) h e = let b : numberOf x ≡ 20 = ap numberOf (let f : x ≡ BadRecord n = cc in f) in absurd (true≢false (sym (rw b at h)))
 
   -- THE SAME BY THE VALUES of the reply, as callers in C read them: right 1, and 0 and 0;
-  pub value-right : markedValues (markedReply ws t es) ≡ record { right = 1; number = 0; place = 0 } ↔ ((checked ws ≡ Passed) × RightHandIn ls a xs es)
+  pub value-right : markedValues (markedReply ws t es) ≡ record { right = 1; number = 0; place = 0 } ↔ ((checked mainLimits ws ≡ Passed) × RightHandIn ls a xs es)
   value-right = (λ e. says-right .0 (go (markedReply ws t es) (ap (λ (v : MarkedValues). v .right) e)), λ p. ap markedValues (says-right .1 p))
     where
       go : (c : Checked) → markedValues c .right ≡ 1 → c ≡ Passed
@@ -74,10 +75,10 @@ module _ (ws t es : List ℕ) where
       go (Refused x) e = absurd (omega arith)
 
   -- right 0, number 20 and the first bad record;
-  pub value-record : (n : ℕ) → markedValues (markedReply ws t es) ≡ record { right = 0; number = 20; place = n } ↔ ((checked ws ≡ Passed) × FirstBad ls a xs es n)
+  pub value-record : (n : ℕ) → markedValues (markedReply ws t es) ≡ record { right = 0; number = 20; place = n } ↔ ((checked mainLimits ws ≡ Passed) × FirstBad ls a xs es n)
   unfolding markedReply
   value-record n = (
-    λ e. says-bad n .0 (go (checked ws) (early ws) (ap (λ (v : MarkedValues). v .number) e) (ap (λ (v : MarkedValues). v .place) e)),
+    λ e. says-bad n .0 (go (checked mainLimits ws) (early mainLimits ws) (ap (λ (v : MarkedValues). v .number) e) (ap (λ (v : MarkedValues). v .place) e)),
     λ p. ap markedValues (says-bad n .1 p),
   )
     where
@@ -91,7 +92,7 @@ module _ (ws t es : List ℕ) where
       go (Refused x) h e p = absurd (true≢false (sym (rw e at h)))
 
   -- and where the words are refused, right 0 and that refusal's number and place, whatever the hand-in is
-  pub value-refused : (x : Refusal) → checked ws ≡ Refused x → markedValues (markedReply ws t es) ≡ record { right = 0; number = numberOf x; place = placeOf x }
+  pub value-refused : (x : Refusal) → checked mainLimits ws ≡ Refused x → markedValues (markedReply ws t es) ≡ record { right = 0; number = numberOf x; place = placeOf x }
   unfolding markedReply
   value-refused x e = rw e refl
 
@@ -101,10 +102,10 @@ module _ (ws t es : List ℕ) where
   accepted-admits p =
       let q = says-right .0 p in
       admits-written (asWritten ws) (clauseWords ls (rootIn a xs) (drawingOf ls xs es))
-      (right-admits (stated ws) (checked-within ws (q .0)) xs es (q .1) (rootIn a xs) (root-leads ls a xs es (q .1)))
+      (right-admits (stated ws) (checked-within mainLimits ws (q .0)) xs es (q .1) (rootIn a xs) (root-leads ls a xs es (q .1)))
 
 -- A TABLE'S WORDS, with its edge list and whatever stands behind that, are accepted for the words that state its constraint
-module _ (ws behind : List ℕ) (e : checked ws ≡ Passed) (few : length (table (levels (stated ws .terms)) (stated ws .bound)) ≤ mostNodes) where
+module _ (ws behind : List ℕ) (e : checked mainLimits ws ≡ Passed) (few : length (table (levels (stated ws .terms)) (stated ws .bound)) ≤ mostNodes) where
   abbrev own : List Node
   own = table (levels (stated ws .terms)) (stated ws .bound)
 

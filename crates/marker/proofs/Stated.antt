@@ -12,6 +12,7 @@ use Rattle.refusal.specs.declared.Checked.{Checked}
 use Rattle.refusal.specs.declared.Checked.the-variants.{Passed, Refused}
 use Rattle.diagram.specs.Level.{Level}
 use Rattle.diagram.specs.Constraint.{Term, levels}
+use Rattle.limits.specs.Limits.{mainLimits}
 use Rattle.constraint_words.specs.Reading.{checked, stated}
 use Rattle.constraint_words.proofs.Laws.{checked-within}
 use Rattle.constraint_bound.specs.declared.Bound.{Bound}
@@ -33,16 +34,16 @@ bound-says : (a : ℤ) → BoundSays (boundOf a) a
 bound-says (pos z) = refl
 bound-says (negsuc z) = (z, refl)
 
-module _ (ws : List ℕ) (ok : checked ws ≡ Passed) (c : Held) (is : c ≡ heldOf (stated ws)) where
+module _ (ws : List ℕ) (ok : checked mainLimits ws ≡ Passed) (c : Held) (is : c ≡ heldOf (stated ws)) where
   says : (b : Bound) → c .bound ≡ b → BoundSays b (stated ws .bound)
-  says b e = subst (λ (x : Bound). BoundSays x (stated ws .bound)) (sym (bound-held (stated ws) (checked-within ws ok) c is) ∙ e) (bound-says (stated ws .bound))
+  says b e = subst (λ (x : Bound). BoundSays x (stated ws .bound)) (sym (bound-held (stated ws) (checked-within mainLimits ws ok) c is) ∙ e) (bound-says (stated ws .bound))
 
   -- the judgement for the record's slices is the one for the constraint that is stated
   pub judged-stated : (z : ℕ) → c .bound ≡ Natural z → (r : Checked) (xs : List Record) (es : List ℕ)
       → r ≡ judged (levelsOf (take (c .terms) (c .coefficients)) (take (c .terms) (c .ends))) (pos z) xs es → r ≡ judged (levels (stated ws .terms)) (stated ws .bound) xs es
   judged-stated z e r xs es f =
       f
-      ∙ ap (λ (ts : List Term). judged (levels ts) (pos z) xs es) (terms-held (stated ws) (checked-within ws ok) c is)
+      ∙ ap (λ (ts : List Term). judged (levels ts) (pos z) xs es) (terms-held (stated ws) (checked-within mainLimits ws ok) c is)
       ∙ ap (λ (a : ℤ). judged (levels (stated ws .terms)) a xs es) (sym (says (Natural z) e))
 
   -- the same for a bound below 0
@@ -53,10 +54,10 @@ module _ (ws : List ℕ) (ok : checked ws ≡ Passed) (c : Held) (is : c ≡ hel
       f (levels (stated ws .terms)) (h .0) es ∙ ap (λ (a : ℤ). judged (levels (stated ws .terms)) a xs es) (sym (h .1))
 
 -- the reply to words that are refused, and to words that pass
-pub mark-refused : (ws t es : List ℕ) (x : Refusal) → Refused x ≡ checked ws → Gives markedValues (markedReply ws t es) (Refused x)
+pub mark-refused : (ws t es : List ℕ) (x : Refusal) → Refused x ≡ checked mainLimits ws → Gives markedValues (markedReply ws t es) (Refused x)
 unfolding markedReply
 mark-refused ws t es x e = gives markedValues (rw (sym e) refl)
 
-pub mark-passed : (ws t es : List ℕ) → checked ws ≡ Passed → (r : Checked) → r ≡ judged (levels (stated ws .terms)) (stated ws .bound) (records t) es → Gives markedValues (markedReply ws t es) r
+pub mark-passed : (ws t es : List ℕ) → checked mainLimits ws ≡ Passed → (r : Checked) → r ≡ judged (levels (stated ws .terms)) (stated ws .bound) (records t) es → Gives markedValues (markedReply ws t es) r
 unfolding markedReply
 mark-passed ws t es e r f = gives markedValues (rw e f)

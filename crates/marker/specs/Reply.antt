@@ -6,6 +6,7 @@ use Rattle.refusal.specs.Table.{numberOf, placeOf, andThen}
 use Rattle.refusal.specs.declared.Checked.{Checked}
 use Rattle.refusal.specs.declared.Checked.the-variants.{Passed, Refused}
 use Rattle.diagram.specs.Constraint.{levels}
+use Rattle.limits.specs.Limits.{mainLimits}
 use Rattle.constraint_words.specs.Reading.{checked, stated}
 use Rattle.marking.specs.Judged.{judged}
 
@@ -19,6 +20,6 @@ abbrev pub markedValues : Checked → MarkedValues
 markedValues Passed = record { right = 1; number = 0; place = 0 }
 markedValues (Refused x) = record { right = 0; number = numberOf x; place = placeOf x }
 
--- THE REPLY: the refusals of the constraint's words come first, then the first bad record; words past the last full record are no record.
+-- THE REPLY: the refusals of the constraint's words under the main limits come first, then the first bad record; words past the last full record are no record.
 unfoldable pub markedReply : List ℕ → List ℕ → List ℕ → Checked
-markedReply ws t es = andThen (checked ws) (judged (levels (stated ws .terms)) (stated ws .bound) (records t) es)
+markedReply ws t es = andThen (checked mainLimits ws) (judged (levels (stated ws .terms)) (stated ws .bound) (records t) es)

@@ -11,6 +11,7 @@ ghost use Rattle.word.specs.Record.{records as records′};
 ghost use Rattle.refusal.specs.declared.Checked.the-variants.{Passed};
 ghost use Rattle.diagram.specs.Level.{Level};
 ghost use Rattle.diagram.specs.Constraint.{levels};
+ghost use Rattle.limits.specs.Limits.{mainLimits};
 ghost use Rattle.constraint_words.specs.Reading.{checked, stated};
 ghost use Rattle.constraint.specs.Held.{heldOf};
 ghost use Rattle.constraint.specs.Lent.{levelsOf, Lent};
@@ -88,8 +89,8 @@ fn mark_below(table: &[u32]) -> Checked
 
 // The judgement for the record of a constraint, by its bound.
 fn mark_record(c: Constraint, table: &[u32], edges: &[u32]) -> Checked
-    requires { ⌜ ((ws : List ℕ) × (checked ws ≡ Passed) × (c ≡ heldOf (stated ws))) ⌝ }
-    ensures { λ r. ⌜ ((ws : List ℕ) → checked ws ≡ Passed → c ≡ heldOf (stated ws)
+    requires { ⌜ ((ws : List ℕ) × (checked mainLimits ws ≡ Passed) × (c ≡ heldOf (stated ws))) ⌝ }
+    ensures { λ r. ⌜ ((ws : List ℕ) → checked mainLimits ws ≡ Passed → c ≡ heldOf (stated ws)
         → r ≡ judged (levels (stated ws .terms)) (stated ws .bound) (records′ (now (table .entry))) (now (edges .entry))) ⌝ }
 {
     let n = c.terms;
@@ -105,7 +106,7 @@ pub fn mark(words: &[u32], table: &[u32], edges: &[u32]) -> Checked
     ensures { λ r. ⌜ Gives markedValues (markedReply (now (words .entry)) (now (table .entry)) (now (edges .entry))) r ⌝ }
 {
     let plain = constraint_words::is_plain(words);
-    match Constraint::check_by(words, plain) {
+    match Constraint::check_by(Constraint::main_limits(), words, plain) {
         Checked::Refused(x) => Checked::Refused(x),
         Checked::Passed => mark_record(Constraint::make(words, plain), table, edges),
     }

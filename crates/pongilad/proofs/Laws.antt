@@ -7,6 +7,7 @@ use Rattle.refusal.specs.Table.{numberOf, placeOf}
 use Rattle.refusal.specs.declared.Refusal.{Refusal}
 use Rattle.propagator.specs.declared.Propagated.{Propagated}
 use Rattle.propagator.specs.Reply.{Propagates}
+use Rattle.limits.specs.declared.Limits.{Limits}
 use Rattle.encoder_levels.specs.declared.Encoded.{Encoded}
 use Rattle.encoder.specs.Promise.{Promise}
 use Rattle.pongilad.specs.declared.EncodedReply.{EncodedReply}
@@ -23,7 +24,7 @@ pub settles : (bs ws before after : List ℕ) (v : Propagated) (r : PropagatedRe
     → Settles bs ws before after r
 settles bs ws before after v r e p = record { fields = e ∙ ap propagatedFields (p .reply .same); buffer = p .buffer }
 
--- The encoding call's promise from the encoder's, which names its own reply.
-pub encodes : (ws t e w t′ e′ w′ : List ℕ) (x : Encoded) (r : EncodedReply) → r ≡ encodedFields x → Promise ws t e w t′ e′ w′ x → Encodes ws t e w t′ e′ w′ r
-encodes ws t e w t′ e′ w′ x r fields p =
-    record { fields = fields ∙ ap encodedFields (p .reply .same); lists = subst (Promise ws t e w t′ e′ w′) (p .reply .same) p }
+-- An encoding call's promise from the encoder's, which names its own reply.
+pub encodes : (l : Limits) (ws t e w t′ e′ w′ : List ℕ) (x : Encoded) (r : EncodedReply) → r ≡ encodedFields x → Promise l ws t e w t′ e′ w′ x → Encodes l ws t e w t′ e′ w′ r
+encodes l ws t e w t′ e′ w′ x r fields p =
+    record { fields = fields ∙ ap encodedFields (p .reply .same); lists = subst (Promise l ws t e w t′ e′ w′) (p .reply .same) p }

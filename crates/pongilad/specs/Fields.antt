@@ -17,6 +17,7 @@ use Rattle.dimacs_text.specs.declared.Converted.{Converted}
 use Rattle.dimacs_text.specs.Reply.{ConvertedValues, convertedValues}
 use Rattle.encoder_levels.specs.declared.Encoded.{Encoded}
 use Rattle.encoder_levels.specs.Reply.{EncodedValues, encodedValues}
+use Rattle.limits.specs.declared.Limits.{Limits}
 use Rattle.encoder.specs.Encoded.{encoded}
 use Rattle.encoder.specs.Promise.{Promise}
 use Rattle.pongilad.specs.declared.EncodedReply.{EncodedReply}
@@ -48,10 +49,10 @@ comparedFields x = let v : ComparedValues = comparedValues x in record { same = 
 abbrev pub textFields : Converted → TextReply
 textFields x = let v : ConvertedValues = convertedValues x in record { number = v .number; place = v .place; length = v .length }
 
--- THE ENCODING CALL: its fields are those of the encoder's reply, and with that reply the three lent lists keep the encoder's promise.
-pub record Encodes (ws t e w : List ℕ) (t′ e′ w′ : List ℕ) (r : EncodedReply) : Type 0 where
-  pub fields : r ≡ encodedFields (encoded ws (length t) (length e) (length w))
-  pub lists : Promise ws t e w t′ e′ w′ (encoded ws (length t) (length e) (length w))
+-- THE ENCODING CALLS, each under its limits: the fields are those of the encoder's reply, and with that reply the three lent lists keep the encoder's promise.
+pub record Encodes (l : Limits) (ws t e w : List ℕ) (t′ e′ w′ : List ℕ) (r : EncodedReply) : Type 0 where
+  pub fields : r ≡ encodedFields (encoded l ws (length t) (length e) (length w))
+  pub lists : Promise l ws t e w t′ e′ w′ (encoded l ws (length t) (length e) (length w))
 
 -- THE PROPAGATING CALL: its fields are those of the propagator's reply, and the lent buffer holds what the definition leaves there.
 pub record Settles (bs ws before after : List ℕ) (r : PropagatedReply) : Type 0 where

@@ -1,15 +1,20 @@
 // The calls of the static library, for C and Rust: each slice is a pointer and a length, each reply a struct of numbers. include/pongilad.h is their C side.
 use comparer::Compared;
+use constraint::Constraint;
 use dimacs_text::Converted;
 use encoder_levels::Encoded;
 use finder::Found;
 use finder_records::Node;
+use limits::Limits;
 use propagator::Propagated;
 use refusal::Checked;
+use refusal::Refusal;
 use tester::Tested;
 use word::Remainder;
 ghost use mathlib.Core.Path.{_≡_};
 ghost use Rattle.word.specs.Record.{records};
+ghost use Rattle.limits.specs.Limits.{mainLimits};
+ghost use Rattle.encoder_levels.specs.declared.Encoded.the-variants.{Refused as EncodedRefused};
 ghost use Rattle.finder.specs.Find.{findIn};
 ghost use Rattle.finder_records.specs.Nodes.{recordsOf};
 ghost use Rattle.comparer.specs.Bytes.{compared};
@@ -76,6 +81,19 @@ pub struct TextReply {
     pub length: u64,
 }
 
+// The fields of an encoder's refusal.
+fn refused_reply(x: Refusal) -> EncodedReply
+    ensures { λ r. ⌜ r ≡ encodedFields (EncodedRefused x) ⌝ }
+{
+    EncodedReply {
+        number: x.number() as u64,
+        place: x.place() as u64,
+        nodes: 0,
+        edges: 0,
+        words: 0,
+    }
+}
+
 // The fields of an encoder's reply.
 fn encoded_reply(x: Encoded) -> EncodedReply
     ensures { λ r. ⌜ r ≡ encodedFields x ⌝ }
@@ -88,13 +106,7 @@ fn encoded_reply(x: Encoded) -> EncodedReply
             edges: n.edges as u64,
             words: n.words as u64,
         },
-        Encoded::Refused(y) => EncodedReply {
-            number: y.number() as u64,
-            place: y.place() as u64,
-            nodes: 0,
-            edges: 0,
-            words: 0,
-        },
+        Encoded::Refused(y) => refused_reply(y),
     }
 }
 
@@ -209,7 +221,24 @@ fn text_reply(x: Converted) -> TextReply
     }
 }
 
-// The node table, the edge list and the clause list of the constraint that the words state.
+// The node table, the edge list and the clause list of the constraint that the words state, under the caller's limits on terms and on nodes.
+#[no_mangle]
+pub extern "C" fn pongilad_encode_with(
+    terms: u64,
+    nodes: u64,
+    words: &[u32],
+    table: &mut [u32],
+    edges: &mut [u32],
+    clauses: &mut [u32],
+) -> EncodedReply
+    ensures { λ r. ⌜ Encodes (record { terms = terms; nodes = nodes }) (now (words .entry)) (now (table .entry)) (now (edges .entry)) (now (clauses .entry)) (now (table .exit)) (now (edges .exit)) (now (clauses .exit)) r ⌝ }
+{
+    let limits = Limits { terms, nodes };
+    let x = encoder::encode_with(limits, words, table, edges, clauses);
+    encoded_reply(x)
+}
+
+// The same under the main limits. The check stands here and not behind a call of the one above: that makes 20 nanoseconds, which tell at 3 nodes.
 #[no_mangle]
 pub extern "C" fn pongilad_encode(
     words: &[u32],
@@ -217,10 +246,17 @@ pub extern "C" fn pongilad_encode(
     edges: &mut [u32],
     clauses: &mut [u32],
 ) -> EncodedReply
-    ensures { λ r. ⌜ Encodes (now (words .entry)) (now (table .entry)) (now (edges .entry)) (now (clauses .entry)) (now (table .exit)) (now (edges .exit)) (now (clauses .exit)) r ⌝ }
+    ensures { λ r. ⌜ Encodes mainLimits (now (words .entry)) (now (table .entry)) (now (edges .entry)) (now (clauses .entry)) (now (table .exit)) (now (edges .exit)) (now (clauses .exit)) r ⌝ }
 {
-    let x = encoder::encode(words, table, edges, clauses);
-    encoded_reply(x)
+    let limits = Constraint::main_limits();
+    let plain = constraint_words::is_plain(words);
+    match Constraint::check_by(limits, words, plain) {
+        Checked::Refused(x) => refused_reply(x),
+        Checked::Passed => {
+            let x = encoder::encode_passed(limits, words, plain, table, edges, clauses);
+            encoded_reply(x)
+        }
+    }
 }
 
 // The first record of the level whose label holds the remainder.

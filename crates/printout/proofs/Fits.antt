@@ -10,26 +10,24 @@ use lib.Dec.{ltb, eqb}
 use lib.ListN.{length, getD, take, length-append, length-map}
 use borrow.Author.Tests.{ltb-false}
 use Rattle.word.specs.Record.{mostNodes}
-use Rattle.word.specs.Word.{lastBoolean}
 use Rattle.word.specs.Edge.{Edge, F, T, to, edgeWord}
 use Rattle.text.specs.Decimal.{decimal}
 use Rattle.refusal.specs.Table.{numberOf, placeOf, unlessRefused}
 use Rattle.refusal.specs.declared.Refusal.{Refusal}
-use Rattle.refusal.specs.declared.Refusal.the-variants.{NoWords, WrongKind, TermCount, DomainEnd, ZeroCoefficient, TooManyNodes, TooManyEdges, TooManyWords, TooManyBooleans, ValueByte, ClauseWord, UnknownBoolean, LiteralCount, OpenClause, NoRoom, NotDimacs, WrongRelation, LowerEnd, BufferLength, BadRecord}
+use Rattle.refusal.specs.declared.Refusal.the-variants.{NoWords, WrongKind, TermCount, DomainEnd, ZeroCoefficient, TooManyNodes, TooManyEdges, TooManyWords, ValueByte, ClauseWord, UnknownBoolean, LiteralCount, OpenClause, NoRoom, NotDimacs, WrongRelation, LowerEnd, BufferLength, BadRecord}
 use Rattle.refusal.specs.declared.Checked.{Checked}
 use Rattle.refusal.specs.declared.Checked.the-variants as check
 use Rattle.diagram.specs.Table.{Node}
 use Rattle.diagram.specs.Claim.{nodeAt}
 use Rattle.diagram.specs.Entering.{entering}
-use Rattle.diagram.specs.Flat.{edgeWords, edgeCount}
+use Rattle.diagram.specs.Flat.{edgeWords}
 use Rattle.diagram.specs.Constraint.{Constraint, Within}
 use Rattle.diagram.proofs.Terms.{levels-ascend, levels-length}
 use Rattle.diagram.proofs.Drawn.{table-right}
 use Rattle.diagram.proofs.Entering.{Inside, entering-few, right-inside}
-use Rattle.encoding.specs.Boolean.{orders}
-use Rattle.encoding.specs.Pattern.{wordCount}
 use Rattle.encoding.proofs.Fits.{own-level}
 use Rattle.builder.proofs.Diagram.{label-ends}
+use Rattle.limits.specs.Limits.{mainLimits}
 use Rattle.constraint_words.specs.Reading.{checked, stated}
 use Rattle.constraint_words.proofs.Laws.{checked-within}
 use Rattle.constraint_words.proofs.Refusals.{Said, placed-within}
@@ -37,11 +35,11 @@ use Rattle.constraint.proofs.Laws.{rest-fits}
 use Rattle.filler.specs.declared.Counts.{Counts}
 use Rattle.encoder_levels.specs.declared.Encoded.{Encoded}
 use Rattle.encoder_levels.specs.declared.Encoded.the-variants.{Accepted, Refused}
-use Rattle.encoder_levels.specs.Reply.{capacity, refuseIf, countsWithin}
+use Rattle.encoder_levels.specs.Reply.{countsWithin}
 use Rattle.encoder.specs.Encoded.{encoded}
 use Rattle.filler.specs.Filled.{levelsIn, nodesFor, rootFor, clausesFor}
 use Rattle.encoder.proofs.Meant.{edges-length, clauseWords-length}
-use Rattle.encoder_levels.proofs.Answers.{countsOf}
+use Rattle.encoder.proofs.Answers.{AllFit, Sized, sized-counted}
 use Rattle.printout_lines.specs.Text.{child, children, nodeLine, nodeLines, countsLine, refusalLine, nodesWord, edgesWord, wordsWord, refusedWord, atWord, newline, field, tooLong, badLength}
 use Rattle.printout.specs.Shown.{mostBytes, mostWords, roomNodes, roomTable, roomEdges, roomClauses, wordsIn, acceptedText, replyText, wordsText, shownIn, shown, Shows, ShowsAll}
 use Rattle.text.specs.Cut.{Printed}
@@ -138,7 +136,6 @@ number-few (ZeroCoefficient at) = omega arith
 number-few TooManyNodes = omega arith
 number-few TooManyEdges = omega arith
 number-few TooManyWords = omega arith
-number-few TooManyBooleans = omega arith
 number-few (ValueByte at) = omega arith
 number-few (ClauseWord at) = omega arith
 number-few (UnknownBoolean at) = omega arith
@@ -160,28 +157,6 @@ refusal-few x h =
       eight (numberOf x) (omega (arith, number-few x)),
       eight (placeOf x) h,
     )
-
--- ---- The reply
-
--- an accepted reply's counts are the diagram's, and find room; a refusal's place is at most n
-abbrev pub Sized : Constraint → ℕ → ℕ → ℕ → ℕ → Encoded → Type 0
-Sized c n t e w (Accepted m) = (m ≡ countsOf c) × (length (nodesFor c) ≤ capacity t) × (edgeCount (levelsIn c) (nodesFor c) ≤ e) × (wordCount (levelsIn c) (nodesFor c) ≤ w)
-Sized c n t e w (Refused x) = placeOf x ≤ n
-
-pub sized-counted : (c : Constraint) (n t e w : ℕ) → Sized c n t e w (countsWithin c t e w)
-unfolding countsWithin
-sized-counted c n t e w = go (ltb (capacity t) (length (nodesFor c))) refl (ltb e (edgeCount (levelsIn c) (nodesFor c))) refl (ltb w (wordCount (levelsIn c) (nodesFor c))) refl
-    (ltb lastBoolean (orders (levelsIn c) + 2 + length (nodesFor c)))
-  where
-    go : (p : Bool) → ltb (capacity t) (length (nodesFor c)) ≡ p → (q : Bool) → ltb e (edgeCount (levelsIn c) (nodesFor c)) ≡ q
-        → (r : Bool) → ltb w (wordCount (levelsIn c) (nodesFor c)) ≡ r → (s : Bool)
-        → Sized c n t e w (refuseIf p TooManyNodes (refuseIf q TooManyEdges (refuseIf r TooManyWords (refuseIf s TooManyBooleans (Accepted (countsOf c))))))
-    go true f q g r h s = omega arith
-    go false f true g r h s = omega arith
-    go false f false g true h s = omega arith
-    go false f false g false h true = omega arith
-    go false f false g false h false =
-        (refl, ltb-false (capacity t) (length (nodesFor c)) f, ltb-false e (edgeCount (levelsIn c) (nodesFor c)) g, ltb-false w (wordCount (levelsIn c) (nodesFor c)) h)
 
 -- ---- The nodes
 
@@ -205,38 +180,38 @@ abbrev pub most : Form → ℕ
 most Diagram = 131072
 most Clauses = 196608
 
-accepted-fit : (f : Form) (c : Constraint) → Within c → (m : Counts) → Sized c mostWords roomTable roomEdges roomClauses (Accepted m)
+text-fits : (f : Form) (c : Constraint) → Within c → (m : Counts) → AllFit mainLimits c roomTable roomEdges roomClauses m
     → length (acceptedText f m (nodesFor c) (clausesFor c)) ≤ most f
-accepted-fit Diagram c within m s =
-    let few : length (nodesFor c) ≤ roomNodes = omega (arith, s .1) in
+text-fits Diagram c within m s =
+    let few : length (nodesFor c) ≤ roomNodes = omega (arith, s .nodes) in
     let wide : length (nodesFor c) ≤ mostNodes = omega arith in
-    let edges : length (edgeWords (nodesFor c)) ≤ roomEdges = omega (arith, edges-length c within wide, s .2) in
-    let n = s .0 in
+    let edges : length (edgeWords (nodesFor c)) ≤ roomEdges = omega (arith, edges-length c within wide, s .edges) in
+    let n = s .counts in
     omega (
       arith,
       length-append (countsLine m) (nodeLines (nodesFor c) 0 (nodesFor c)),
-      counts-few m (omega (arith, ap (λ (k : Counts). k .nodes) n)) (omega (arith, ap (λ (k : Counts). k .edges) n, s .2)) (omega (arith, ap (λ (k : Counts). k .words) n, s .3)),
+      counts-few m (omega (arith, ap (λ (k : Counts). k .nodes) n)) (omega (arith, ap (λ (k : Counts). k .edges) n, s .edges)) (omega (arith, ap (λ (k : Counts). k .words) n, s .words)),
       lines-few (nodesFor c) (omega arith) (omega arith) 0 (nodesFor c) (omega arith) (nodes-short c within),
     )
-accepted-fit Clauses c within m s =
-    let wide : length (nodesFor c) ≤ mostNodes = omega (arith, s .1) in
-    omega (arith, written-few (clausesFor c), clauseWords-length c within wide, s .3)
+text-fits Clauses c within m s =
+    let wide : length (nodesFor c) ≤ mostNodes = omega (arith, s .nodes) in
+    omega (arith, written-few (clausesFor c), clauseWords-length c within wide, s .words)
 
 words-fit : (f : Form) (ws : List ℕ) → length ws ≤ mostWords → length (wordsText f ws roomTable roomEdges roomClauses) ≤ most f
 unfolding encoded
-words-fit f ws h = go (checked ws) refl (placed-within ws)
+words-fit f ws h = go (checked mainLimits ws) refl (placed-within mainLimits ws)
   where
     line : (g : Form) (x : Refusal) → placeOf x ≤ mostWords → length (refusalLine x) ≤ most g
     line Diagram x k = omega (arith, refusal-few x (omega arith))
     line Clauses x k = omega (arith, refusal-few x (omega arith))
 
-    reply : (r : Encoded) → checked ws ≡ check.Passed → Sized (stated ws) mostWords roomTable roomEdges roomClauses r → length (replyText f r (nodesFor (stated ws)) (clausesFor (stated ws))) ≤ most f
-    reply (Refused x) p s = line f x s
-    reply (Accepted m) p s = accepted-fit f (stated ws) (checked-within ws p) m s
+    reply : (r : Encoded) → checked mainLimits ws ≡ check.Passed → Sized mainLimits (stated ws) roomTable roomEdges roomClauses r → length (replyText f r (nodesFor (stated ws)) (clausesFor (stated ws))) ≤ most f
+    reply (Refused x) p s = line f x (omega (arith, s))
+    reply (Accepted m) p s = text-fits f (stated ws) (checked-within mainLimits ws p) m s
 
-    go : (k : Checked) → checked ws ≡ k → Said (λ x. placeOf x ≤ length ws) k
-        → length (replyText f (unlessRefused Refused k (countsWithin (stated ws) roomTable roomEdges roomClauses)) (nodesFor (stated ws)) (clausesFor (stated ws))) ≤ most f
-    go check.Passed e a = reply (countsWithin (stated ws) roomTable roomEdges roomClauses) e (sized-counted (stated ws) mostWords roomTable roomEdges roomClauses)
+    go : (k : Checked) → checked mainLimits ws ≡ k → Said (λ x. placeOf x ≤ length ws) k
+        → length (replyText f (unlessRefused Refused k (countsWithin mainLimits (stated ws) roomTable roomEdges roomClauses)) (nodesFor (stated ws)) (clausesFor (stated ws))) ≤ most f
+    go check.Passed e a = reply (countsWithin mainLimits (stated ws) roomTable roomEdges roomClauses) e (sized-counted mainLimits (stated ws) roomTable roomEdges roomClauses)
     go (check.Refused x) e a = line f x (omega arith)
 
 -- THE BOUND

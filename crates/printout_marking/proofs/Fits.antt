@@ -18,6 +18,7 @@ use Rattle.text.specs.Cut.{Wrote}
 use Rattle.text.proofs.Cuts.{wrote-as, printed, printed-inside, printed-count, printed-all}
 use Rattle.diagram.specs.Level.{Level}
 use Rattle.diagram.specs.Constraint.{levels}
+use Rattle.limits.specs.Limits.{mainLimits}
 use Rattle.constraint_words.specs.Reading.{checked, stated}
 use Rattle.constraint_words.proofs.Refusals.{Said, placed-within}
 use Rattle.marking.specs.HandIn.{FirstBad}
@@ -53,7 +54,7 @@ told-placed ls a xs es n h (Refused x) t = omega (arith, ap placeOf (t .1), bad-
 
 marked-placed : (ws t es : List ℕ) (n : ℕ) → length ws ≤ n → length t ≤ n → Placed n (markedReply ws t es)
 unfolding markedReply
-marked-placed ws t es n h k = go (checked ws) (placed-within ws)
+marked-placed ws t es n h k = go (checked mainLimits ws) (placed-within mainLimits ws)
   where
     ls : List Level
     ls = levels (stated ws .terms)

@@ -5,7 +5,7 @@ use lib.Dec.{leb}
 use Rattle.refusal.specs.declared.Refusal.{Refusal}
 use Rattle.refusal.specs.declared.Checked.{Checked}
 use Rattle.refusal.specs.declared.Checked.the-variants.{Passed, Refused}
-use Rattle.refusal.specs.declared.Refusal.the-variants.{NoWords, WrongKind, TermCount, DomainEnd, ZeroCoefficient, TooManyNodes, TooManyEdges, TooManyWords, TooManyBooleans, ValueByte, ClauseWord, UnknownBoolean, LiteralCount, OpenClause, NoRoom, NotDimacs, WrongRelation, LowerEnd, BufferLength, BadRecord}
+use Rattle.refusal.specs.declared.Refusal.the-variants.{NoWords, WrongKind, TermCount, DomainEnd, ZeroCoefficient, TooManyNodes, TooManyEdges, TooManyWords, ValueByte, ClauseWord, UnknownBoolean, LiteralCount, OpenClause, NoRoom, NotDimacs, WrongRelation, LowerEnd, BufferLength, BadRecord}
 
 abbrev pub numberOf : Refusal → ℕ
 numberOf NoWords = 1
@@ -16,7 +16,6 @@ numberOf (ZeroCoefficient at) = 5
 numberOf TooManyNodes = 6
 numberOf TooManyEdges = 7
 numberOf TooManyWords = 8
-numberOf TooManyBooleans = 9
 numberOf (ValueByte at) = 10
 numberOf (ClauseWord at) = 11
 numberOf (UnknownBoolean at) = 12
@@ -38,7 +37,6 @@ placeOf (ZeroCoefficient at) = at
 placeOf TooManyNodes = 0
 placeOf TooManyEdges = 0
 placeOf TooManyWords = 0
-placeOf TooManyBooleans = 0
 placeOf (ValueByte at) = at
 placeOf (ClauseWord at) = at
 placeOf (UnknownBoolean at) = at

@@ -12,7 +12,6 @@ pub enum Refusal {
     TooManyNodes,
     TooManyEdges,
     TooManyWords,
-    TooManyBooleans,
     ValueByte(usize),
     ClauseWord(usize),
     UnknownBoolean(usize),
@@ -46,7 +45,6 @@ impl Refusal {
             Refusal::TooManyNodes => 6,
             Refusal::TooManyEdges => 7,
             Refusal::TooManyWords => 8,
-            Refusal::TooManyBooleans => 9,
             Refusal::ValueByte(_) => 10,
             Refusal::ClauseWord(_) => 11,
             Refusal::UnknownBoolean(_) => 12,
@@ -83,7 +81,6 @@ impl Refusal {
             Refusal::TooManyNodes => 0,
             Refusal::TooManyEdges => 0,
             Refusal::TooManyWords => 0,
-            Refusal::TooManyBooleans => 0,
             Refusal::NoRoom => 0,
             Refusal::BufferLength => 0,
         }

@@ -12,6 +12,7 @@ use Rattle.diagram.specs.Entering.{times, entering}
 use Rattle.diagram.specs.Flat.{recordsFrom, tableWords, edgeWords, edgeCount}
 use Rattle.diagram.specs.Constraint.{Constraint}
 use Rattle.encoding.specs.Pattern.{orderWords, nodeWords}
+use Rattle.limits.specs.Limits.{mainLimits}
 use Rattle.constraint_words.specs.Reading.{eachFrom, placedFrom, termsFrom, checked, asWritten, stated}
 use Rattle.filler.specs.Filled.{nodesFor, clausesFor}
 use Rattle.encoder_levels.specs.declared.Encoded.{Encoded}
@@ -42,7 +43,7 @@ refusedRow ws r = record { words = ws; reply = r; table = lent 0; edges = lent 0
 abbrev pub values : ℕ → ℕ → ℕ → ℕ → ℕ → EncodedValues
 values number place nodes edges words = record { number = number; place = place; nodes = nodes; edges = edges; words = words }
 
--- What a call with such lists gives.
+-- What a call with such lists gives, under the main limits.
 abbrev pub answered : Exercise → Encoded → Constraint → Exercise
 answered x r c =
     record {
@@ -54,7 +55,7 @@ answered x r c =
     }
 
 abbrev pub given : Exercise → Exercise
-given x = answered x (encoded (x .words) (suc (x .reply .nodes * recordWords)) (suc (x .reply .edges)) (suc (x .reply .words))) (stated (x .words))
+given x = answered x (encoded mainLimits (x .words) (suc (x .reply .nodes * recordWords)) (suc (x .reply .edges)) (suc (x .reply .words))) (stated (x .words))
 
 -- P's clause list, and R's three lists, which are S's too.
 abbrev pub clausesP : List ℕ

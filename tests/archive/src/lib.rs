@@ -79,6 +79,18 @@ extern "C" {
         clauses: *mut u32,
         w: usize,
     ) -> Encoded;
+    fn pongilad_encode_with(
+        most_terms: u64,
+        most_nodes: u64,
+        words: *const u32,
+        n: usize,
+        table: *mut u32,
+        t: usize,
+        edges: *mut u32,
+        e: usize,
+        clauses: *mut u32,
+        w: usize,
+    ) -> Encoded;
     fn pongilad_find(table: *const u32, n: usize, level: u32, remainder: u32) -> Found;
     fn pongilad_find_node(nodes: *const Node, n: usize, level: u32, remainder: u32) -> Found;
     fn pongilad_test(values: *const u8, v: usize, clauses: *const u32, w: usize) -> Tested;
@@ -93,6 +105,13 @@ extern "C" {
 pub fn encode(words: &[u32], table: &mut [u32], edges: &mut [u32], clauses: &mut [u32]) -> Encoded {
     let (t, e, w) = (table.len(), edges.len(), clauses.len());
     unsafe { pongilad_encode(words.as_ptr(), words.len(), table.as_mut_ptr(), t, edges.as_mut_ptr(), e, clauses.as_mut_ptr(), w) }
+}
+
+/// The encoder under limits on terms and nodes.
+pub fn encode_with(terms: u64, nodes: u64, words: &[u32], table: &mut [u32], edges: &mut [u32], clauses: &mut [u32]) -> Encoded {
+    let (n, t, e, w) = (words.len(), table.len(), edges.len(), clauses.len());
+    let [table, edges, clauses] = [table, edges, clauses].map(<[u32]>::as_mut_ptr);
+    unsafe { pongilad_encode_with(terms, nodes, words.as_ptr(), n, table, t, edges, e, clauses, w) }
 }
 
 /// The finder.

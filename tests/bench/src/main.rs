@@ -1,6 +1,7 @@
 //! Times the proved archive against the separately written calls, and the file comparer against loops and `memcmp`: the same inputs in the same run, calls in turn, the least time of each.
 
 mod compare;
+mod limits;
 mod mark;
 mod propagate;
 mod text;
@@ -8,6 +9,7 @@ mod text;
 use reference::constraint::Constraint;
 use reference::diagram::RECORD;
 use reference::encode::Build;
+use reference::limits::Limits;
 use reference::{encode, fixed, maps, sums};
 use std::hint::black_box;
 use std::time::{Duration, Instant};
@@ -39,7 +41,14 @@ fn least(c: &Constraint, lengths: [usize; 3]) -> (u64, usize, [f64; 3]) {
         times[0] = times[0].min(once(reps, ours));
         for (k, build) in [maps::build as Build, sums::build].into_iter().enumerate() {
             let other = &mut || {
-                let _ = black_box(encode::encode(build, black_box(&words), black_box(&mut t), black_box(&mut e), black_box(&mut w)));
+                let _ = black_box(encode::encode(
+                    build,
+                    Limits::MAIN,
+                    black_box(&words),
+                    black_box(&mut t),
+                    black_box(&mut e),
+                    black_box(&mut w),
+                ));
             };
             times[k + 1] = times[k + 1].min(once(reps, other));
         }
@@ -82,6 +91,7 @@ fn main() {
     println!("Refused with 6; lists of {room:?} words, zeroed by each call:");
     line("65,537 nodes", &fixed::full_with(2), room);
     line("far more", &fixed::beyond(), room);
+    limits::sizes();
     propagate::sizes();
     mark::sizes();
     text::sizes();

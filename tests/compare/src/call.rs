@@ -4,6 +4,7 @@ use crate::lent::{rubbish, Lent, SIDES};
 use archive::Encoded;
 use reference::diagram::{FALSE, RECORD};
 use reference::encode::{encode, Build, Counts};
+use reference::limits::Limits;
 use reference::random::Random;
 use reference::refusal::Refusal;
 
@@ -57,13 +58,27 @@ pub fn reply_of(told: Result<Counts, Refusal>) -> Encoded {
     }
 }
 
+/// An encoder of the archive over constraint words, a table, an edge list and a clause list.
+type Encoder<'a> = &'a dyn Fn(&[u32], &mut [u32], &mut [u32], &mut [u32]) -> Encoded;
+
+/// Compares the encoders by the call that takes no limits.
+pub fn both(r: &mut Random, build: Build, words: &[u32], lengths: [usize; 3]) -> Given {
+    compared(r, build, Limits::MAIN, &archive::encode, words, lengths)
+}
+
+/// Compares the encoders by the call under limits.
+pub fn both_within(r: &mut Random, build: Build, limits: Limits, words: &[u32], lengths: [usize; 3]) -> Given {
+    let Limits { terms, nodes } = limits;
+    compared(r, build, limits, &|words, t, e, c| archive::encode_with(terms, nodes, words, t, e, c), words, lengths)
+}
+
 /// Calls both encoders with lists of these lengths, ours with the unreadable page on each side in turn, and compares replies, every lent word and the margins.
 /// Then the edges that enter nodes are added up.
-pub fn both(r: &mut Random, build: Build, words: &[u32], lengths: [usize; 3]) -> Given {
+fn compared(r: &mut Random, build: Build, limits: Limits, encoder: Encoder, words: &[u32], lengths: [usize; 3]) -> Given {
     let before = lengths.map(|n| rubbish(r, n, |w| w));
     let mut after = before.clone();
     let [t, e, c] = &mut after;
-    let reply = reply_of(encode(build, words, t, e, c));
+    let reply = reply_of(encode(build, limits, words, t, e, c));
     if OF_WORDS.contains(&reply.number) && after != before {
         differ("lent memory after refused words", hex(words));
     }
@@ -71,8 +86,9 @@ pub fn both(r: &mut Random, build: Build, words: &[u32], lengths: [usize; 3]) ->
         let lent = Lent::new(side, words);
         let mut lists = before.each_ref().map(|list| Lent::new(side, list));
         let [t, e, c] = &mut lists;
-        let ours = archive::encode(lent.list(), t.list_mut(), e.list_mut(), c.list_mut());
-        let input = || format!("words {}\nlengths {lengths:?}, page {side:?}\narchive   {ours:?}\nreference {reply:?}", hex(words));
+        let ours = encoder(lent.list(), t.list_mut(), e.list_mut(), c.list_mut());
+        let input =
+            || format!("words {}\n{limits:?}, lengths {lengths:?}, page {side:?}\narchive   {ours:?}\nreference {reply:?}", hex(words));
         if ours != reply {
             differ("reply of the encoder", input());
         }

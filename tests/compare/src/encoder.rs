@@ -51,7 +51,7 @@ pub fn needs(c: &Constraint) -> [usize; 3] {
 pub type Source = fn(&mut Random) -> Vec<u32>;
 
 /// The exact needs, and one word less in each list.
-fn edge_lengths(needs: [usize; 3]) -> Vec<[usize; 3]> {
+pub fn edge_lengths(needs: [usize; 3]) -> Vec<[usize; 3]> {
     let mut all = vec![needs];
     for k in 0..3 {
         let mut short = needs;
@@ -62,7 +62,7 @@ fn edge_lengths(needs: [usize; 3]) -> Vec<[usize; 3]> {
 }
 
 /// The way to build in this round.
-fn way(round: u64) -> Build {
+pub fn way(round: u64) -> Build {
     if round & 1 == 0 {
         sums::build
     } else {

@@ -13,6 +13,7 @@ mod finder;
 mod guarded;
 mod inputs;
 mod lent;
+mod limits;
 mod marker;
 mod program;
 mod propagator;
@@ -35,6 +36,11 @@ fn report(name: &str, t: &encoder::Tally) {
     let roots = if counted { format!(", root F: {}, root T: {}", t.never, t.always) } else { String::new() };
     let most = format!("most nodes: {}, most edges into one: {}", t.nodes, t.entering);
     println!("{name}: {}, calls: {} (by number, {}), {most}{roots}", t.constraints, t.calls, numbers(&t.numbers));
+}
+
+/// A line on one kind of encoding call under limits.
+fn report_limited(name: &str, t: &limits::Tally) {
+    println!("{name}: {}, calls: {} (by number, {}), refused by the limits alone: {}", t.inputs, t.calls, numbers(&t.numbers), t.stricter);
 }
 
 /// A line on one kind of call over DIMACS text.
@@ -148,6 +154,18 @@ fn encoders(r: &mut Random) {
     println!("values as a student writes them: {can} satisfy their constraint, {cannot} do not");
 }
 
+/// The encoder under limits on terms and nodes.
+fn limited(r: &mut Random) {
+    report_limited("limits, starred exercises", &limits::exercises(r));
+    report_limited("limits, random constraints", &limits::random(r, 400));
+    report_limited("limits, larger constraints", &limits::larger(r, 12));
+    report_limited("limits, damaged constraints", &limits::damaged(r, 2_000));
+    report_limited("limits, one fault in up to 65 terms", &limits::faults(r));
+    report_limited("limits, 15 to 17 and 63 to 65 terms", &limits::terms_counted(r, 4));
+    report_limited("limits, 15 to 17 terms with 255 to 257 nodes", &limits::nodes_counted(r));
+    report_limited("limits, 65,535 to 65,537 nodes", &limits::full(r));
+}
+
 fn main() {
     let begin = std::time::Instant::now();
     let mut r = Random::new(1);
@@ -172,5 +190,6 @@ fn main() {
     text(&mut r);
     let (shown, refused) = show::program(&mut r, 600);
     println!("printing program: {shown} inputs (refused by number {})", numbers(&refused));
+    limited(&mut r);
     println!("no difference, {:.1} s", begin.elapsed().as_secs_f64());
 }

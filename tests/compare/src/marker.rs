@@ -102,6 +102,11 @@ impl Tally {
     }
 }
 
+/// Ends the program unless both markers call the records and edges right.
+pub fn right(words: &[u32], table: &[u32], edges: &[u32]) {
+    Tally::default().known(&HandIn::new(words, table, edges), RIGHT);
+}
+
 /// The reference's reply.
 fn reference(hand_in: &HandIn) -> Marked {
     match mark(&hand_in.words, &hand_in.table, &hand_in.edges) {

@@ -6,6 +6,7 @@ use crate::signed;
 use archive::program::{bytes_of, printed};
 use reference::diagram::RECORD;
 use reference::encode::encode;
+use reference::limits::Limits;
 use reference::random::Random;
 use reference::sums;
 
@@ -48,7 +49,7 @@ impl Program {
     /// The output for a list of words, with the programs' room.
     fn output(&self, words: &[u32]) -> String {
         let (mut table, mut edges, mut clauses) = (vec![0; RECORD * 1_024], vec![0; 8_192], vec![0; 16_384]);
-        let reply = reply_of(encode(sums::build, words, &mut table, &mut edges, &mut clauses));
+        let reply = reply_of(encode(sums::build, Limits::MAIN, words, &mut table, &mut edges, &mut clauses));
         match reply.number {
             0 => (self.prints)(&Given { reply, table, edges, clauses }),
             number => format!("refused {number} at {}\n", reply.place),

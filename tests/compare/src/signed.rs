@@ -67,15 +67,20 @@ pub fn small(r: &mut Random) -> Vec<u32> {
     spelled(r, &w)
 }
 
-/// The words of a constraint with hundreds to thousands of nodes.
-pub fn large(r: &mut Random) -> Vec<u32> {
+/// Words with a relation, signs and lower ends that say a constraint of this base form.
+pub fn of_base(r: &mut Random, base: &Constraint) -> Vec<u32> {
     loop {
-        let base = inputs::large(r);
-        let w = over(r, &base, base.bound);
-        if w.base() == base {
+        let w = over(r, base, base.bound);
+        if w.base() == *base {
             return spelled(r, &w);
         }
     }
+}
+
+/// The words of a constraint with hundreds to thousands of nodes.
+pub fn large(r: &mut Random) -> Vec<u32> {
+    let base = inputs::large(r);
+    of_base(r, &base)
 }
 
 /// A word of one of the new kinds, which may or may not say something.

@@ -4,8 +4,9 @@ use crate::clauses::clauses;
 use crate::constraint::Constraint;
 use crate::diagram::{Diagram, RECORD};
 use crate::lent::place;
+use crate::limits::Limits;
 use crate::refusal::Refusal;
-use crate::words::read;
+use crate::words::read_within;
 
 /// A way to build the diagram, with the most nodes that it may have.
 pub type Build = fn(&Constraint, usize) -> Option<Diagram>;
@@ -18,10 +19,18 @@ pub struct Counts {
     pub words: u64,
 }
 
-/// The whole call: the counts or the refusal, and the three lists as the specification leaves them.
-pub fn encode(build: Build, words: &[u32], table: &mut [u32], edges: &mut [u32], list: &mut [u32]) -> Result<Counts, Refusal> {
-    let c = read(words)?.base();
-    let made = build(&c, (table.len() / RECORD).min(65_536));
+/// The whole call under limits: the counts or the refusal, and the three lists as the specification leaves them.
+pub fn encode(
+    build: Build,
+    limits: Limits,
+    words: &[u32],
+    table: &mut [u32],
+    edges: &mut [u32],
+    list: &mut [u32],
+) -> Result<Counts, Refusal> {
+    let limits = limits.counted();
+    let c = read_within(limits.terms, words)?.base();
+    let made = build(&c, (table.len() / RECORD).min(limits.nodes as usize));
     let number = match &made {
         None => 6,
         Some(d) if d.edges.len() > edges.len() => 7,

@@ -10,6 +10,7 @@ pub mod encode;
 pub mod find;
 pub mod fixed;
 pub mod lent;
+pub mod limits;
 pub mod maps;
 pub mod mark;
 pub mod propagate;

@@ -1,5 +1,6 @@
 //! The words of a constraint: read, with refusals 1 to 5, 17 and 18, and made.
 
+use crate::limits::Limits;
 use crate::refusal::Refusal;
 use crate::written::{Relation, Summand, Written};
 
@@ -67,10 +68,10 @@ fn beyond(words: &[u32]) -> Fault {
     words.iter().enumerate().find_map(|(k, w)| number(*w).map(|n| (n, k)))
 }
 
-/// Refusal 3.
-fn miscounted(words: &[u32]) -> Fault {
-    let terms = words.iter().filter(|w| kind(**w) == TERM).count();
-    (!(1..=64).contains(&terms)).then_some((3, words.len()))
+/// Refusal 3: no term, or more than the most.
+fn miscounted(most: u64, words: &[u32]) -> Fault {
+    let terms = words.iter().filter(|w| kind(**w) == TERM).count() as u64;
+    (terms == 0 || terms > most).then_some((3, words.len()))
 }
 
 /// Refusals 4 and 5.
@@ -91,9 +92,18 @@ fn summand(before: u32, term: u32) -> Summand {
     Summand { factor, low: if kind(before) == LOW { signed(before) } else { 0 }, d }
 }
 
-/// What the words say, or the first refusal that applies.
+/// What the words say, or the first refusal that applies under the main limits.
 pub fn read(words: &[u32]) -> Result<Written, Refusal> {
-    let fault = [missing, misplaced, beyond, miscounted, bad_term].iter().find_map(|check| check(words));
+    read_within(Limits::MAIN.terms, words)
+}
+
+/// The same where this many terms are the most.
+pub fn read_within(most: u64, words: &[u32]) -> Result<Written, Refusal> {
+    let fault = missing(words)
+        .or_else(|| misplaced(words))
+        .or_else(|| beyond(words))
+        .or_else(|| miscounted(most, words))
+        .or_else(|| bad_term(words));
     if let Some((number, place)) = fault {
         return Err(Refusal { number, place: place as u64 });
     }

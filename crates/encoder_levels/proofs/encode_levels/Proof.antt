@@ -1,36 +1,28 @@
--- `encoder_levels::encode_levels` meets its contract: a decided bound has no nodes, and an undecided one is a remainder of 32 bits. Assumes nothing.
-use mathlib.Core.Path.{sym, _∙_}
-use native.Mathlib.Omega.{arith}
-use lib.IntN.{pos, negsuc}
-use Rattle.constraint_bound.proofs.Laws.{negative-is, natural-is}
-use Rattle.constraint.proofs.Slices.{rests-count, rest-at, rest-small}
-use Rattle.encoder_levels.proofs.Tables.{tabled-F, tabled-T, renamed}
+-- `encoder_levels::encode_levels` meets its contract: what is drawn finds no room, or the lists are filled from it. Assumes nothing.
+use Rattle.encoder_levels.proofs.Tables.{bound-of-some, recounted, same-answer, full-answer}
 use borrow.Author.Needs.{needs}
 use Rattle.encoder_levels.proofs.encode_levels.Statement.{statement}
 use Rattle.encoder_levels.proofs.encode_levels.Tie as tie
 
-enum-known-bound : tie.Need-enum-known-bound
-enum-known-bound c = search needs
+draw-requires : tie.Need-draw-requires
+draw-requires c κs = search needs
 
-shared-slice-read-if1 : tie.Need-shared-slice-read-if1
-shared-slice-read-if1 c =
-    let s = c .before .before .before .before .before .before .before .before .before .before in
-    omega (arith, rests-count (s .args .coefs .now) (s .args .ends .now) (s .args .rests .now) (s .pre .0))
+enum-told : tie.Need-enum-told
+enum-told c = search needs
 
-cast-if1 : tie.Need-cast-if1
-cast-if1 c =
-    let s = c .before .before .before .before .before .before .before .before .before .before in
-    omega (arith, rest-at (s .args .coefs .now) (s .args .ends .now) (s .args .rests .now) (s .pre .0) 0 (omega arith), rest-small (s .args .coefs .now) (s .args .ends .now) (s .args .rests .now) (s .pre .0) 0)
+refuse-requires : tie.Need-refuse-requires
+refuse-requires c κs = search needs
 
-cast-t16 : tie.Need-cast-t16
-cast-t16 c =
-    let s = c .before .before .before .before .before .before .before .before .before .before .before in
-    omega (arith, rest-at (s .args .coefs .now) (s .args .ends .now) (s .args .rests .now) (s .pre .0) 0 (omega arith), rest-small (s .args .coefs .now) (s .args .ends .now) (s .args .rests .now) (s .pre .0) 0)
+enum-known-x : tie.Need-enum-known-x
+enum-known-x c = search needs
 
-encode-undecided-requires : tie.Need-encode-undecided-requires
-encode-undecided-requires c κs =
-    let s = c .before .before .before .before .before .before .before .before .before .before .before .before .before .before in
-    ((s .pre .0, omega (arith, rest-at (s .args .coefs .now) (s .args .ends .now) (s .args .rests .now) (s .pre .0) 0 (omega arith))), s .pre .1)
+finish-requires : tie.Need-finish-requires
+finish-requires c κs =
+    let k = c .before .before .before .before .before .before .before .before .before .before in
+    let s = k .before .before .before .before .before .before .before .before .before in
+    let z = bound-of-some (s .args .bound) in
+    let d = rw (c .before .before .before .before .x .given .1) at (k .draw .ensures (z .0) (z .1)) in
+    (s .pre .0, (z .0, recounted _ _ _ _ (s .pre .1) (d .1)))
 
 same-length : tie.Need-same-length
 same-length c = search needs
@@ -43,22 +35,11 @@ same-length-3 c = search needs
 
 returns : tie.Need-returns
 returns c =
-    let s = c .before .before .before .before .before .before .before .before .before .before .before .before .before .before .before .before .before .before .before .before .before in
-    λ a e. renamed (s .args .coefs .now) (s .args .ends .now) _ _ _ _ _ _ _ (natural-is a _ (sym (c .before .before .before .before .before .before .before .before .before .before .before .before .before .bound .given .1) ∙ e)) (c .before .before .before .before .before .before .encode-undecided .ensures)
-
-finish-requires : tie.Need-finish-requires
-finish-requires c κs =
-    let s = c .before .before .before .before .before .before .before .before .before .before .before .before .before .before in
-    let b = c .before .before .before .before .before .before .bound .given .0 .0 in
-    (s .pre .0, (pos b, tabled-T (s .args .coefs .now) (s .args .ends .now) (s .args .orders) (s .pre .1) b _ (omega (arith, rest-at (s .args .coefs .now) (s .args .ends .now) (s .args .rests .now) (s .pre .0) 0 (omega arith)))))
-
-enum-told : tie.Need-enum-told
-enum-told c = search needs
-
-finish-requires-2 : tie.Need-finish-requires-2
-finish-requires-2 c κs =
-    let s = c .before .before .before .before .before .before .before .before .before .before .before in
-    (s .pre .0, (negsuc 0, tabled-F (s .args .coefs .now) (s .args .ends .now) (s .args .orders) (s .pre .1) 0 _))
+    let k = c .before .before .before .before .before .before .before .before .before .before .before .before .before .before .before .before in
+    let s = k .before .before .before .before .before .before .before .before .before in
+    λ a e.
+    let d = rw (c .before .before .before .before .before .before .before .before .before .before .enum-told .given .1) at (k .draw .ensures a e) in
+    full-answer (s .args .limits) (s .args .coefs .now) (s .args .ends .now) a (s .args .table .now) _ _ (s .args .clauses .now) _ _ _ _ _ d (k .draw .kept .1 .1 .1 .1 .1 .0) (k .draw .kept .1 .1 .1 .1 .1 .1 .0) (c .before .before .before .before .before .before .refuse .ensures)
 
 same-length-4 : tie.Need-same-length-4
 same-length-4 c = search needs
@@ -71,47 +52,27 @@ same-length-6 c = search needs
 
 returns-2 : tie.Need-returns-2
 returns-2 c =
-    let s = c .before .before .before .before .before .before .before .before .before .before .before .before .before .before .before .before .before .before .before .before .before in
+    let k = c .before .before .before .before .before .before .before .before .before .before .before .before .before .before .before .before .before in
+    let s = k .before .before .before .before .before .before .before .before .before in
     λ a e.
-    renamed (s .args .coefs .now) (s .args .ends .now) _ _ _ _ _ _ _ (natural-is a _ (sym (c .before .before .before .before .before .before .before .before .before .before .before .before .before .bound .given .1) ∙ e)) (c .before .before .before .before .before .before .finish .ensures (pos _) (tabled-T (s .args .coefs .now) (s .args .ends .now) (s .args .orders) (s .pre .1) _ _ (omega (arith, rest-at (s .args .coefs .now) (s .args .ends .now) (s .args .rests .now) (s .pre .0) 0 (omega arith)))))
-
-same-length-7 : tie.Need-same-length-7
-same-length-7 c = search needs
-
-same-length-8 : tie.Need-same-length-8
-same-length-8 c = search needs
-
-same-length-9 : tie.Need-same-length-9
-same-length-9 c = search needs
-
-returns-3 : tie.Need-returns-3
-returns-3 c =
-    let s = c .before .before .before .before .before .before .before .before .before .before .before .before .before .before .before .before .before .before in
-    λ a e.
-    let z = negative-is a (sym (c .before .before .before .before .before .before .before .before .before .before .enum-told .given .1) ∙ e) in
-    renamed (s .args .coefs .now) (s .args .ends .now) _ _ _ _ _ _ _ (z .1) (c .before .before .before .before .before .before .finish2 .ensures (negsuc (z .0)) (tabled-F (s .args .coefs .now) (s .args .ends .now) (s .args .orders) (s .pre .1) (z .0) _))
+    let d = rw (c .before .before .before .before .before .before .before .before .before .before .before .x .given .1) at (k .draw .ensures a e) in
+    same-answer (s .args .limits) (s .args .coefs .now) (s .args .ends .now) a (s .args .table .now) _ _ (s .args .clauses .now) _ _ _ _ _ (k .draw .kept .1 .1 .1 .1 .1 .0) (k .draw .kept .1 .1 .1 .1 .1 .1 .0)
+    (c .before .before .before .before .before .before .finish .ensures (s .args .limits) a (d .0) (recounted _ _ _ _ (s .pre .1) (d .1)))
 
 pub encode-levels-spec : {M : Type 1} → statement M
 encode-levels-spec =
     tie.close
     (tie.spec
-    enum-known-bound
-    shared-slice-read-if1
-    cast-if1
-    cast-t16
-    encode-undecided-requires
+    draw-requires
+    enum-told
+    refuse-requires
+    enum-known-x
+    finish-requires
     same-length
     same-length-2
     same-length-3
     returns
-    finish-requires
-    enum-told
-    finish-requires-2
     same-length-4
     same-length-5
     same-length-6
-    returns-2
-    same-length-7
-    same-length-8
-    same-length-9
-    returns-3)
+    returns-2)

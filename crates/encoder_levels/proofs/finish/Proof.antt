@@ -2,7 +2,7 @@
 use mathlib.Core.Path.{ap, sym, _∙_}
 use native.Mathlib.Omega.{arith}
 use Rattle.encoder_levels.specs.declared.Encoded.the-variants.{Accepted}
-use Rattle.encoder_levels.proofs.Answers.{refuse-7, refuse-8, refuse-9, accept, refused-answer, accepted-answer, countable, ends-le, nodes-fit, counts-are, same-nodes, same-edges, same-words, roomy, renumbered}
+use Rattle.encoder_levels.proofs.Answers.{refuse-7, refuse-8, accept, refused-answer, accepted-answer, countable, ends-le, nodes-fit, counts-are, same-nodes, same-edges, same-words, roomy, renumbered}
 use borrow.Author.Needs.{needs}
 use Rattle.encoder_levels.proofs.finish.Statement.{statement}
 use Rattle.encoder_levels.proofs.finish.Tie as tie
@@ -28,8 +28,8 @@ returns : tie.Need-returns
 returns c =
     let s = c .before .before .before .before .before .before .before .before .before .before .before .before .before .before .before .before .before .before .before .before in
     let n = c .before .before .before .before .before .before .before .before .before .before .before .before .count .ensures in
-    λ a B. let is = n ∙ counts-are (s .pre .0) B in
-    refused-answer _ _ _ _ _ _ _ _ _ (refuse-7 _ _ _ _ (nodes-fit (s .pre .0) B) (omega (arith, same-edges is)))
+    λ l a h B. let is = n ∙ counts-are (s .pre .0) B in
+    refused-answer l _ _ _ _ _ _ _ _ _ (refuse-7 l _ _ _ _ (nodes-fit (s .pre .0) B l h) (omega (arith, same-edges is)))
     (c .before .before .before .before .before .before .refuse .ensures)
 
 refuse-requires-2 : tie.Need-refuse-requires-2
@@ -48,18 +48,16 @@ returns-2 : tie.Need-returns-2
 returns-2 c =
     let s = c .before .before .before .before .before .before .before .before .before .before .before .before .before .before .before .before .before .before .before .before .before .before in
     let n = c .before .before .before .before .before .before .before .before .before .before .before .before .before .before .count .ensures in
-    λ a B. let is = n ∙ counts-are (s .pre .0) B in
-    refused-answer _ _ _ _ _ _ _ _ _ (refuse-8 _ _ _ _ (nodes-fit (s .pre .0) B) (omega (arith, same-edges is)) (omega (arith, same-words is)))
+    λ l a h B. let is = n ∙ counts-are (s .pre .0) B in
+    refused-answer l _ _ _ _ _ _ _ _ _ (refuse-8 l _ _ _ _ (nodes-fit (s .pre .0) B l h) (omega (arith, same-edges is)) (omega (arith, same-words is)))
     (c .before .before .before .before .before .before .refuse2 .ensures)
 
-add-if3 : tie.Need-add-if3
-add-if3 c = search needs
-
-add-if3-2 : tie.Need-add-if3-2
-add-if3-2 c = search needs
-
-refuse-requires-3 : tie.Need-refuse-requires-3
-refuse-requires-3 c κs = search needs
+fill-requires : tie.Need-fill-requires
+fill-requires c κs =
+    let s = c .before .before .before .before .before .before .before .before .before .before .before .before .before .before .before in
+    let n = c .before .before .before .before .before .before .before .count .ensures in
+    let p = s .pre .1 in
+    (s .pre .0, (p .0, renumbered _ _ _ _ (same-nodes n) (p .1), roomy _ _ _ _ (n ∙ counts-are (s .pre .0) (p .1)) (omega arith) (omega arith)))
 
 same-length-7 : tie.Need-same-length-7
 same-length-7 c = search needs
@@ -72,36 +70,12 @@ same-length-9 c = search needs
 
 returns-3 : tie.Need-returns-3
 returns-3 c =
-    let s = c .before .before .before .before .before .before .before .before .before .before .before .before .before .before .before .before .before .before .before .before .before .before .before in
-    let n = c .before .before .before .before .before .before .before .before .before .before .before .before .before .before .before .count .ensures in
-    λ a B. let is = n ∙ counts-are (s .pre .0) B in
-    refused-answer _ _ _ _ _ _ _ _ _ (refuse-9 _ _ _ _ (nodes-fit (s .pre .0) B) (omega (arith, same-edges is)) (omega (arith, same-words is)) (omega (arith, B .booleans, B .counted)))
-    (c .before .before .before .before .before .before .refuse3 .ensures)
-
-fill-requires : tie.Need-fill-requires
-fill-requires c κs =
-    let s = c .before .before .before .before .before .before .before .before .before .before .before .before .before .before .before .before in
-    let n = c .before .before .before .before .before .before .before .before .count .ensures in
-    let p = s .pre .1 in
-    (s .pre .0, (p .0, renumbered _ _ _ _ (same-nodes n) (p .1), roomy _ _ _ _ (n ∙ counts-are (s .pre .0) (p .1)) (omega arith) (omega arith)))
-
-same-length-10 : tie.Need-same-length-10
-same-length-10 c = search needs
-
-same-length-11 : tie.Need-same-length-11
-same-length-11 c = search needs
-
-same-length-12 : tie.Need-same-length-12
-same-length-12 c = search needs
-
-returns-4 : tie.Need-returns-4
-returns-4 c =
-    let s = c .before .before .before .before .before .before .before .before .before .before .before .before .before .before .before .before .before .before .before .before .before .before .before in
-    let n = c .before .before .before .before .before .before .before .before .before .before .before .before .before .before .before .count .ensures in
-    λ a B. let is = n ∙ counts-are (s .pre .0) B in
+    let s = c .before .before .before .before .before .before .before .before .before .before .before .before .before .before .before .before .before .before .before .before .before .before in
+    let n = c .before .before .before .before .before .before .before .before .before .before .before .before .before .before .count .ensures in
+    λ l a h B. let is = n ∙ counts-are (s .pre .0) B in
     let m = roomy _ _ (s .args .edges .now) (s .args .clauses .now) is (omega arith) (omega arith) in
-    accepted-answer _ _ _ _ _ _ _ _
-    (accept _ _ _ _ (nodes-fit (s .pre .0) B) (m .wide) (m .long) (omega (arith, B .booleans, B .counted)) ∙ ap Accepted (sym is))
+    accepted-answer l _ _ _ _ _ _ _ _
+    (accept l _ _ _ _ (nodes-fit (s .pre .0) B l h) (m .wide) (m .long) ∙ ap Accepted (sym is))
     (c .before .before .before .before .before .before .fill .ensures a (renumbered _ _ _ _ (same-nodes n) B) m)
 
 pub finish-spec : {M : Type 1} → statement M
@@ -119,15 +93,8 @@ finish-spec =
     same-length-5
     same-length-6
     returns-2
-    add-if3
-    add-if3-2
-    refuse-requires-3
+    fill-requires
     same-length-7
     same-length-8
     same-length-9
-    returns-3
-    fill-requires
-    same-length-10
-    same-length-11
-    same-length-12
-    returns-4)
+    returns-3)

@@ -1,5 +1,6 @@
 -- `marker::mark_record` meets its contract: by the bound of the record, whose arrays are the slices of the constraint that the words state. Assumes nothing.
 use Rattle.constraint_words.specs.Reading.{stated}
+use Rattle.limits.specs.Limits.{mainLimits}
 use Rattle.constraint_words.proofs.Laws.{checked-within}
 use Rattle.constraint.proofs.Arrays.{arrays}
 use Rattle.marker.proofs.Stated.{judged-stated, judged-below}
@@ -19,7 +20,7 @@ enum-known-bound c = search needs
 mark-arrays-requires : tie.Need-mark-arrays-requires
 mark-arrays-requires c κs =
     let s = c .before .before .before .before .before .before .before .before .before .before .before .before in
-    let a = arrays (stated (s .pre .0)) (checked-within (s .pre .0) (s .pre .1)) (s .args .t1) (s .pre .2) in
+    let a = arrays (stated (s .pre .0)) (checked-within mainLimits (s .pre .0) (s .pre .1)) (s .args .t1) (s .pre .2) in
     (a .long, a .lent)
 
 returns : tie.Need-returns

@@ -13,7 +13,7 @@ use Rattle.constraint.proofs.Constraint.check_by.Statement.{statement}
 use Rattle.constraint.proofs.Constraint.check_by.Tie as tie
 
 returns : tie.Need-returns
-returns c = sym (checked-none (c .before .before .args .words .now) (omega arith))
+returns c = let s = c .before .before in sym (checked-none (s .args .limits) (s .args .words .now) (omega arith))
 
 shared-slice-read-kind-of : tie.Need-shared-slice-read-kind-of
 shared-slice-read-kind-of c = search needs
@@ -22,7 +22,7 @@ kind-of-requires : tie.Need-kind-of-requires
 kind-of-requires c κs = search needs
 
 returns-2 : tie.Need-returns-2
-returns-2 c = sym (checked-first (c .before .before .before .before .before .args .words .now) (omega arith) (omega arith))
+returns-2 c = let s = c .before .before .before .before .before in sym (checked-first (s .args .limits) (s .args .words .now) (omega arith) (omega arith))
 
 check-plain-requires : tie.Need-check-plain-requires
 check-plain-requires c κs = let s = c .before .before .before .before .before .before in (omega arith, sym (s .pre) ∙ c .if3 .taken)
@@ -48,16 +48,18 @@ check-items-requires c κs = (c .before .before .before .first-item .ensures, om
 returns-4 : tie.Need-returns-4
 returns-4 c =
     let k = c .before .before .before in
-    let ws = k .before .before .before .before .before .before .before .before .args .words .now in
+    let s = k .before .before .before .before .before .before .before .before in
+    let ws = s .args .words .now in
     let places = subst (λ (f : ℕ). k .check-places .result ≡ placedFrom false f (drop f ws)) (k .before .first-item .ensures) (k .check-places .ensures) in
-    sym (checked-places ws (omega arith) (omega arith) _ (sym places ∙ c .before .x .given .1))
+    sym (checked-places (s .args .limits) ws (omega arith) (omega arith) _ (sym places ∙ c .before .x .given .1))
 
 returns-5 : tie.Need-returns-5
 returns-5 c =
     let k = c .before .before .before in
-    let ws = k .before .before .before .before .before .before .before .before .args .words .now in
+    let s = k .before .before .before .before .before .before .before .before in
+    let ws = s .args .words .now in
     let places = subst (λ (f : ℕ). k .check-places .result ≡ placedFrom false f (drop f ws)) (k .before .first-item .ensures) (k .check-places .ensures) in
-    c .check-items .ensures ∙ sym (checked-items ws (omega arith) (omega arith) (sym places ∙ c .before .enum-told .given .1))
+    c .check-items .ensures ∙ sym (checked-items (s .args .limits) ws (omega arith) (omega arith) (sym places ∙ c .before .enum-told .given .1))
 
 pub check-by-spec : {M : Type 1} → statement M
 check-by-spec =

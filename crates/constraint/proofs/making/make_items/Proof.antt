@@ -8,6 +8,7 @@ use lib.ListN.{length, drop, replicate}
 use Rattle.inequality.specs.Base.{turnedBy}
 use Rattle.diagram.specs.Constraint.{mostTerms, greatestSum, mostOrders}
 use Rattle.constraint_words.specs.Reading.{relationIn, termsIn}
+use Rattle.limits.specs.Limits.{mainLimits}
 use Rattle.constraint_words.proofs.Laws.{checked-all}
 use Rattle.constraint_words.proofs.Items.{termCount, first-within}
 use Rattle.constraint.proofs.Made.{Made, made-none, item-before, more-fits, bound-fits, places-known, shift-known, made-turn, made-all}
@@ -72,10 +73,10 @@ first-item-requires c κs = search needs
 
 count-terms-requires : tie.Need-count-terms-requires Inv-levels μ-levels
 count-terms-requires c κs =
-    let s = c .before .before .before in omega (arith, c .first-item .ensures, first-within (s .args .words .now) (checked-all (s .args .words .now) (s .pre) .some))
+    let s = c .before .before .before in omega (arith, c .first-item .ensures, first-within (s .args .words .now) (checked-all mainLimits (s .args .words .now) (s .pre) .some))
 
 bound-by-requires : tie.Need-bound-by-requires Inv-levels μ-levels
-bound-by-requires c κs = let s = c .before .before .before .before in checked-all (s .args .words .now) (s .pre) .some
+bound-by-requires c κs = let s = c .before .before .before .before in checked-all mainLimits (s .args .words .now) (s .pre) .some
 
 levels-holds : tie.Need-levels-holds Inv-levels μ-levels
 levels-holds c =

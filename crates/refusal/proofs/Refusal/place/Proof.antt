@@ -60,9 +60,6 @@ enum-told-5 c = search needs
 enum-told-6 : tie.Need-enum-told-6
 enum-told-6 c = search needs
 
-enum-told-7 : tie.Need-enum-told-7
-enum-told-7 c = search needs
-
 returns : tie.Need-returns
 returns c = rw (c .before .self .given .1)
 
@@ -120,9 +117,6 @@ returns-18 c = rw (c .enum-told5 .given .1)
 returns-19 : tie.Need-returns-19
 returns-19 c = rw (c .enum-told6 .given .1)
 
-returns-20 : tie.Need-returns-20
-returns-20 c = rw (c .enum-told7 .given .1)
-
 pub place-spec : {M : Type 1} → statement M
 place-spec =
     tie.close
@@ -146,7 +140,6 @@ place-spec =
     enum-told-4
     enum-told-5
     enum-told-6
-    enum-told-7
     returns
     returns-2
     returns-3
@@ -165,5 +158,4 @@ place-spec =
     returns-16
     returns-17
     returns-18
-    returns-19
-    returns-20)
+    returns-19)
