@@ -1,5 +1,7 @@
 // The diagram of a constraint, built into a lent node table: node building and row building call each other. While it grows the table is kept in two runs.
 // Level i, from 0, has the coefficient coefs[i] and the domain end ends[i]; rests[i] is the greatest sum from that level on.
+#![tactic(auto)]
+
 ghost use Rattle.std.specs.Prelude.{◌+◌, ◌-◌, ◌<◌, length, get_or};
 ghost use Rattle.word.specs.Record.{labelled, RecordsFit};
 ghost use Rattle.finder.specs.Find.{Missing};

@@ -1,4 +1,6 @@
 // The steps of building that stand outside its cycle of calls: where a child leads, what its label does to the row's, and putting a node's record in.
+#![tactic(auto)]
+
 ghost use Rattle.std.specs.Prelude.{◌≡◌, suc, ◌+◌, ◌-◌, ◌*◌, ◌<◌, min, max, length, get_or};
 ghost use Rattle.word.specs.Record.{labelled, RecordsFit, record_at};
 ghost use Rattle.finder.specs.Find.{Missing};

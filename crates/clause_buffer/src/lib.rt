@@ -1,4 +1,6 @@
 // Clauses put into a lent buffer, and of the clause list of a drawing the order clauses and the unit clauses.
+#![tactic(auto)]
+
 ghost use Rattle.std.specs.Prelude.{◌≡◌, [], ◌∷◌, true, suc, ◌+◌, ◌-◌, ◌≤◌};
 ghost use Rattle.word.specs.Word.{last_boolean, literal_word, end_word};
 ghost use Rattle.word.specs.Edge.{edge_boolean, edge_of};

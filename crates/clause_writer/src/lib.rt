@@ -1,4 +1,6 @@
 // The clause list of a drawing, written into a lent buffer.
+#![tactic(auto)]
+
 ghost use Rattle.std.specs.Prelude.{◌≡◌, List, map, true, suc, ◌+◌, ◌≤◌, length};
 ghost use Rattle.word.specs.Word.{last_boolean, literal_word};
 ghost use Rattle.word.specs.Edge.{to, edge_boolean, edge_of, edge_in};

@@ -1,4 +1,6 @@
 // The file comparer: bytes against words.
+#![tactic(auto)]
+
 ghost use Rattle.std.specs.Prelude.{◌≡◌, ◌+◌, ◌*◌, ◌≤◌, ◌<◌, min, length};
 ghost use Rattle.word.specs.Gives.{Gives};
 ghost use Rattle.comparer.specs.Bytes.{compared_values, compared};

@@ -1,4 +1,6 @@
 // The base bound as the difference of two sums: a payload goes into one as it is and half of the payloads into the other, so that nothing here is below 0.
+#![tactic(auto)]
+
 ghost use Rattle.std.specs.Prelude.{◌≡◌, not, ◌&&◌, eqb, ◌≤◌, ◌<◌, length};
 ghost use Rattle.std.proofs.Math.IntN.{sub_ℕ};
 ghost use Rattle.word.specs.Word.{payloads, half, negated};
@@ -11,14 +13,14 @@ ghost use Rattle.constraint_bound.specs.Sums.{most_bound, most_shift, most_sum, 
 use word::HALF;
 
 // A bound: its value, or that it is below 0.
-#[derive(Drop)]
+#[derive(Clone, Copy)]
 pub enum Bound {
     Negative,
     Natural(u64),
 }
 
 // A whole number as the difference of two sums.
-#[derive(Drop)]
+#[derive(Clone, Copy)]
 pub struct Difference {
     pub gain: u64,
     pub loss: u64,

@@ -1,4 +1,6 @@
 // The checks of constraint words that go by no limit of the record: refusal 2 of the places of the items, and 18 of their lower ends.
+#![tactic(auto)]
+
 ghost use Rattle.std.specs.Prelude.{◌≡◌, false, ◌≤◌, pos, length, drop};
 ghost use Rattle.constraint_words.specs.Reading.{can_stand, placed_from, each_from, lower_checked, terms_from};
 

@@ -1,4 +1,6 @@
 // The parts of constraint words: whether a relation is given, where the items begin, how many terms there are, and whether the words are plain.
+#![tactic(auto)]
+
 ghost use Rattle.std.specs.Prelude.{◌≡◌, ◌≤◌, pos, length, drop};
 ghost use Rattle.constraint_words.specs.Reading.{has_relation, first_item, terms_from};
 ghost use Rattle.constraint_words.specs.Plain.{unsigned_in, is_plain};

@@ -1,4 +1,6 @@
 // Reads the bytes of a constraint's words from standard input, and prints its clauses as DIMACS text.
+#![tactic(auto)]
+
 use libc::STDOUT_FILENO;
 
 fn main() {

@@ -1,4 +1,6 @@
 // Reads DIMACS text, a byte at a time, and puts the clause words that it says into a lent list.
+#![tactic(auto)]
+
 ghost use Rattle.std.specs.Prelude.{◌≡◌, set};
 ghost use Rattle.dimacs_reader.specs.Reads.{Reads};
 

@@ -1,4 +1,6 @@
 // One byte of DIMACS text: the state between two bytes, and what a byte leads to.
+#![tactic(auto)]
+
 ghost use Rattle.std.specs.Prelude.{◌≡◌, cond, true, false, ◌&&◌, ◌≤◌, ◌-◌, eqb};
 ghost use Rattle.word.specs.Word.{last_boolean, end_word};
 ghost use Rattle.dimacs_text.specs.Machine.{GoodState, GoodCount, GoodOpen, count};
@@ -20,7 +22,7 @@ const MOST_LITERALS: u32 = 1073741823;
 const TENTH: u64 = 1844674407370955161;
 
 // What was read last, and so what may follow.
-#[derive(Drop)]
+#[derive(Clone, Copy)]
 pub enum Phase {
     // A gap before the header, or a comment there.
     Before,
@@ -46,7 +48,7 @@ pub enum Phase {
 }
 
 // The state between two bytes.
-#[derive(Drop)]
+#[derive(Clone, Copy)]
 pub struct State {
     pub phase: Phase,
     // In a gap: a line begins here. In a literal: it is not negated.

@@ -1,4 +1,6 @@
 // A clause list written as DIMACS text into lent bytes.
+#![tactic(auto)]
+
 ghost use Rattle.std.specs.Prelude.{◌≡◌, not, leb, length, replicate};
 ghost use Rattle.text.specs.Cut.{Wrote};
 ghost use Rattle.dimacs_text.specs.Text.{sign};
@@ -17,7 +19,7 @@ const KNOWN: usize = LAST_BOOLEAN as usize;
 const HEADER: usize = 8;
 
 // The header's two numbers: the greatest Boolean and the clause count.
-#[derive(Drop)]
+#[derive(Clone, Copy)]
 pub struct Header {
     pub most: u32,
     pub clauses: usize,

@@ -1,4 +1,6 @@
 // From the levels of a constraint to the three lists: the diagram built, refusals 6 to 8 by its own counts, and the lists filled.
+#![tactic(auto)]
+
 ghost use Rattle.std.specs.Prelude.{◌≡◌, ◌≤◌, ◌<◌, ℤ};
 ghost use Rattle.word.specs.Edge.{edge_of};
 ghost use Rattle.diagram.specs.Level.{R};

@@ -1,4 +1,6 @@
 // The counts of a diagram that is built, and its edge list and clauses, in memory that the caller lends.
+#![tactic(auto)]
+
 ghost use Rattle.std.specs.Prelude.{◌≡◌, ◌≤◌, ℤ, length};
 ghost use Rattle.word.specs.Edge.{edge_of};
 ghost use Rattle.constraint.specs.Lent.{Lent};
@@ -9,7 +11,7 @@ ghost use Rattle.filler.specs.Filled.{constraint_of, counts_by, Tabled, Roomy, F
 use word::{Child, RECORD};
 
 // How many nodes, edges and clause words an accepted call has written.
-#[derive(Drop)]
+#[derive(Clone, Copy)]
 pub struct Counts {
     pub nodes: usize,
     pub edges: usize,

@@ -1,4 +1,6 @@
 // The finder over a flat table of node records.
+#![tactic(auto)]
+
 ghost use Rattle.std.specs.Prelude.{◌≡◌, ltb};
 ghost use Rattle.word.specs.Gives.{Gives};
 ghost use Rattle.word.specs.Record.{records};
@@ -8,7 +10,7 @@ use word::{LOWER, NodeNumber, RECORD, Remainder, UPPER};
 
 // What the finder replies: the number of a record, or that there is none, with the gap, which counts the records that lie before the remainder. A record does
 // where its level is smaller than the wanted one, or is that one and its upper end is below the remainder.
-#[derive(Drop)]
+#[derive(Clone, Copy)]
 pub enum Found {
     At(NodeNumber),
     Nothing(usize),

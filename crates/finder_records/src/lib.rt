@@ -1,4 +1,6 @@
 // The finder over a lent slice of node records.
+#![tactic(auto)]
+
 ghost use Rattle.std.specs.Prelude.{◌≡◌, ◌+◌, ◌≤◌, ◌<◌};
 ghost use Rattle.word.specs.Gives.{Gives};
 ghost use Rattle.finder.specs.Find.{found_values, find_in};
@@ -10,7 +12,7 @@ use word::{NodeNumber, Remainder};
 
 // A node's record: its level, the lower and the upper end of its label, the place of its first child in the edge list, and the number of edges that enter it.
 #[repr(C)]
-#[derive(Drop)]
+#[derive(Clone, Copy)]
 pub struct Node {
     pub level: u32,
     pub lower: u32,
@@ -20,7 +22,7 @@ pub struct Node {
 }
 
 // How far a search has come: the number of the record that it reads next, and the reply so far.
-#[derive(Drop)]
+#[derive(Clone, Copy)]
 struct Search {
     next: usize,
     reply: Found,

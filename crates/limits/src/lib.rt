@@ -1,8 +1,10 @@
 // The limits that a caller sets on terms and on nodes, and how one of them is read.
+#![tactic(auto)]
+
 ghost use Rattle.std.specs.Prelude.{◌≡◌, min};
 
 // The most terms and the most nodes; 0 is a limit like any other.
-#[derive(Drop)]
+#[derive(Clone, Copy)]
 pub struct Limits {
     pub terms: u64,
     pub nodes: u64,

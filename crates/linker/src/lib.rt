@@ -1,4 +1,6 @@
 // From the labels of a finished table: the sum of domain ends, and the edge list with each record's place in it and the edges that enter its node.
+#![tactic(auto)]
+
 ghost use Rattle.std.specs.Prelude.{◌≡◌, map, ◌+◌, ◌≤◌, ℤ, length};
 ghost use Rattle.std.proofs.Math.IntN.{sub_ℕ};
 ghost use Rattle.std.proofs.Math.Seq.{paste};

@@ -1,4 +1,6 @@
 // Reads a constraint and a hand-in from standard input, and prints whether the hand-in is right, or its first bad record.
+#![tactic(auto)]
+
 use libc::STDOUT_FILENO;
 
 fn main() {

@@ -1,4 +1,6 @@
 // The marker: a constraint's words, a table and an edge list, all only read; whether the hand-in is right, or its first bad record.
+#![tactic(auto)]
+
 mod records; // the records of a table, one after the other
 
 ghost use Rattle.std.specs.Prelude.{◌≡◌, List, ℕ, ◌+◌, ◌≤◌, pos, negsuc, length, take};
@@ -21,7 +23,7 @@ use refusal::{Checked, Refusal};
 use word::RECORD;
 
 // The fields of a record that are read.
-#[derive(Drop)]
+#[derive(Clone, Copy)]
 struct Fields {
     level: u32,
     lower: u32,

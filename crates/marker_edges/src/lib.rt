@@ -1,4 +1,6 @@
 // The edges of a record: each is F, T or the number of a record one level down, and the label of its end must cover that of the record.
+#![tactic(auto)]
+
 ghost use Rattle.std.specs.Prelude.{◌≡◌, ◌+◌, ◌*◌, ◌≤◌, length};
 ghost use Rattle.word.specs.Edge.{to, edge_of};
 ghost use Rattle.diagram.specs.Label.{up};
@@ -11,7 +13,7 @@ use word::{Child, LOWER, NodeNumber, RECORD, UPPER};
 const NUMBERS: usize = 0x40000000;
 
 // What a record's edges are held against: the level below it, the ends of its label, and the greatest sum from that level on.
-#[derive(Drop)]
+#[derive(Clone, Copy)]
 pub struct Parent {
     pub below: u32,
     pub lower: u32,

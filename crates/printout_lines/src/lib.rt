@@ -1,4 +1,6 @@
 // The lines that the programs print of a diagram and of a refusal.
+#![tactic(auto)]
+
 ghost use Rattle.std.specs.Prelude.{◌≡◌, List, ◌++◌, map, ℕ, suc, ◌≤◌};
 ghost use Rattle.word.specs.Record.{RecordsFit, record_at};
 ghost use Rattle.diagram.specs.Table.{Node};

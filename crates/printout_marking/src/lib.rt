@@ -1,4 +1,6 @@
 // The printed line of a marking, from the bytes of a constraint and a hand-in.
+#![tactic(auto)]
+
 ghost use Rattle.std.specs.Prelude.{◌≡◌, ◌≤◌, length, take};
 ghost use Rattle.text.specs.Cut.{Wrote};
 ghost use Rattle.printout_marking.specs.Printed.{most_hand_in_words, wrong_line, marked_line, answer_text, table_answer, words_answer, bytes_answer, words_after, Marks};

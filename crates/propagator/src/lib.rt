@@ -1,5 +1,7 @@
 // Unit propagation: from value bytes, byte v - 1 for Boolean v (0 false, 1 true, 2 open), and a clause list, a lent buffer is filled with all that unit propagation
 // settles. Passes over the list go in alternating directions, each from where the one before made its last change, until nothing changes. No other memory is used.
+#![tactic(auto)]
+
 ghost use Rattle.std.specs.Prelude.{◌≡◌, ℕ, ◌+◌, ◌≤◌, ◌<◌, length, drop};
 ghost use Rattle.word.specs.Word.{boolean};
 ghost use Rattle.refusal.specs.declared.Checked.TheVariants.{Passed};

@@ -1,9 +1,11 @@
 // The refusal table: why a call refuses its input, one variant for each row.
+#![tactic(auto)]
+
 ghost use Rattle.std.specs.Prelude.{◌≡◌};
 ghost use Rattle.refusal.specs.Table.{number_of, place_of};
 
 // A variant carries its place where the row's place depends on the input.
-#[derive(Drop)]
+#[derive(Clone, Copy)]
 pub enum Refusal {
     NoWords,
     WrongKind(usize),
@@ -27,7 +29,7 @@ pub enum Refusal {
 }
 
 // What a check finds: nothing to refuse, or the first refusal.
-#[derive(Drop)]
+#[derive(Clone, Copy)]
 pub enum Checked {
     Passed,
     Refused(Refusal),

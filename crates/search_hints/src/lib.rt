@@ -1,6 +1,8 @@
 // Where in the first run the record of a remainder may stand: a guess, by counts that the lent words keep behind those for merging. For each level they count the
 // records that end before each part of the remainders. Whoever uses a guess tests it; no promise rests on these functions, so all that they promise is
 // to keep within the lists.
+#![tactic(auto)]
+
 ghost use Rattle.std.specs.Prelude.{◌≡◌, ◌+◌, ◌<◌, ◌≤◌, true, length};
 ghost use Rattle.word.specs.Record.{RecordsFit};
 ghost use Rattle.search_hints.specs.Level.{level_words};

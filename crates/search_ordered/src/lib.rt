@@ -1,4 +1,6 @@
 // Records in order at the beginning of a flat table: the finder among them, where the gap is the remainder's place.
+#![tactic(auto)]
+
 ghost use Rattle.std.specs.Prelude.{◌≡◌, true, ◌+◌, ◌≤◌, ◌<◌, ltb};
 ghost use Rattle.finder.specs.Find.{bit_of, gap_in, find_in};
 ghost use Rattle.word.specs.Record.{labelled, RecordsFit};

@@ -1,5 +1,7 @@
 // A table of records in two runs: the first `main` records, in order, and behind them a short second run, in order, into which new records go. When the second is
 // as long as it may be, or the words lent for merging hold no more, it is merged into the first; so a new record moves few others, however many there are.
+#![tactic(auto)]
+
 mod merging; // the two runs made one
 
 ghost use Rattle.std.specs.Prelude.{◌≡◌, suc, ◌+◌, ◌*◌, ◌/◌, ◌≤◌, min, length};

@@ -1,4 +1,6 @@
 // Labels, with their levels, stored in the records of a flat table, copied, and put in between others. What the records' other words hold is left open.
+#![tactic(auto)]
+
 ghost use Rattle.std.specs.Prelude.{◌≡◌, suc, ◌+◌, ◌*◌, ◌≤◌, length, drop, get_or};
 ghost use Rattle.word.specs.Record.{record_words, RecordsFit, no_record, label_from, labels, labelled};
 ghost use Rattle.search_store.specs.Copy.{copied};

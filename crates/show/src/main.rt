@@ -1,4 +1,6 @@
 // Reads the bytes of a constraint's words from standard input, and prints its diagram.
+#![tactic(auto)]
+
 use libc::STDOUT_FILENO;
 
 fn main() {

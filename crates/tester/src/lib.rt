@@ -1,4 +1,6 @@
 // The clause tester: value bytes, byte v - 1 for Boolean v, against a clause list.
+#![tactic(auto)]
+
 ghost use Rattle.std.specs.Prelude.{◌≡◌, ◌≤◌, length, drop};
 ghost use Rattle.word.specs.Gives.{Gives};
 ghost use Rattle.clause.specs.Meaning.{literal_of, literal_true, clauses_of};

@@ -1,4 +1,6 @@
 // Bytes put into a lent list, piece by piece, and numbers in decimal; what finds no room is cut off.
+#![tactic(auto)]
+
 ghost use Rattle.std.specs.Prelude.{[], ◌∷◌, ◌≡◌, length};
 ghost use Rattle.word.specs.Padded.{cleared};
 ghost use Rattle.text.specs.Cut.{Wrote};

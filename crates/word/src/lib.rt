@@ -1,23 +1,25 @@
 // Words: kind and payload, the words that the encoder writes, and the three numbers that must not be taken for each other.
+#![tactic(auto)]
+
 ghost use Rattle.std.specs.Prelude.{◌≡◌, true, false, ◌≤◌};
 ghost use Rattle.word.specs.Word.{kind, payload, domain_end, coefficient, boolean, negated, last_boolean, literal_word, last_count, end_word, of_bytes};
 ghost use Rattle.word.specs.Padded.{cleared};
 ghost use Rattle.word.specs.Edge.{to, edge_word, edge_in, edge_boolean, edge_of};
 
 // A Boolean variable, from 1.
-#[derive(Drop)]
+#[derive(Clone, Copy)]
 pub struct Variable(pub u32);
 
 // A node's number in the table, from 0.
-#[derive(Drop)]
+#[derive(Clone, Copy)]
 pub struct NodeNumber(pub usize);
 
 // What is left of the bound, where it is not below 0.
-#[derive(Drop)]
+#[derive(Clone, Copy)]
 pub struct Remainder(pub u32);
 
 // The end of an edge.
-#[derive(Drop)]
+#[derive(Clone, Copy)]
 pub enum Child {
     False,
     True,

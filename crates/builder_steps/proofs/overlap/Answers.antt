@@ -1,0 +1,6 @@
+-- `builder_steps::overlap` meets its contract, by those of `larger` and `smaller`. Assumes nothing.
+use borrow.Author.Rules.{rules}
+use Rattle.builder_steps.proofs.overlap.Goals as goal
+
+pub returns : goal.returns
+returns c = cc

@@ -1,0 +1,36 @@
+-- `builder_steps::put` meets its contract, by those of settling the runs and of putting into the second. Assumes nothing.
+use mathlib.Core.Path.{refl, ◌∙◌}
+use native.Mathlib.Omega.{arith}
+use lib.ListN.{length}
+use borrow.Author.Rules.{rules}
+use Rattle.search_runs.proofs.Views.{settled_both}
+use Rattle.builder_steps.proofs.Settling.{settled_missing}
+use Rattle.builder_steps.proofs.put.Goals as goal
+
+pub settle-k-requires : goal.settle-k-requires
+settle-k-requires c =
+    let T = c.requires.0.runs in
+    (T.mid, T.room, T.few, c.requires.1)
+
+pub put-requires : goal.put-requires
+put-requires c =
+    let S = c.settle-k.ensures.0 in
+    let v = settled_both c.args.table.now c.args.main c.args.count (length c.args.work.now) _ _ c.requires.0.runs c.requires.0.apart S in
+    (S.within, omega (arith, c.if-table-count.false, S.long), v.0.pending, settled_missing c.args.table.now c.args.main c.args.count (length c.args.work.now) _ _ c.requires.0 S c.args.level c.args.r.0 c.requires.2)
+
+pub shape_of-table : goal.shape_of-table
+shape_of-table c = c.put.auto.0 ∙ c.settle-k.auto.0
+
+pub shape_of-work : goal.shape_of-work
+shape_of-work c = c.settle-k.auto.1.0
+
+pub returns : goal.returns
+returns c =
+    record {
+      between = c.settle-k.new.0;
+      settled = c.settle-k.ensures.0;
+      put = c.put.ensures;
+      one = refl;
+      same = refl;
+      room = omega (arith, c.if-table-count.false);
+    }

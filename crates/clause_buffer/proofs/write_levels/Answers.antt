@@ -1,0 +1,45 @@
+-- `clause_buffer::write_levels` meets its contract. The invariant: the clauses of the levels before i are in, and those from i on are left. The measure is the
+-- number of levels left. Assumes nothing.
+use borrow.Author.Rules.{rules}
+use mathlib.Core.Path.{refl}
+use Prim.Native.Nat.{◌+◌, ◌-◌, ◌≤◌}
+use native.Mathlib.Omega.{arith}
+use lib.ListN.{length, drop}
+use Rattle.word.specs.Word.{last_boolean}
+use Rattle.clause.specs.Meaning.{words_of}
+use Rattle.encoding.specs.Pattern.{orders_of}
+use Rattle.encoding.specs.Boolean.{orders}
+use Rattle.clause_buffer.specs.Ended.{ended}
+use Rattle.clause_buffer.proofs.Writing.{WordsLeft, words_left_all, words_left_room, words_left_less, words_left_none}
+use Rattle.clause_buffer.proofs.Turns.{levels_left, levels_turn, levels_none, orders_turn}
+use Rattle.clause_buffer.proofs.write_levels.Goals as goal
+
+pub levels-init : goal.levels-init
+levels-init c =
+    let args = c.args in
+    (omega (arith, c.requires.0), words_left_all _ _ 0 args.out.now refl c.requires.1)
+
+pub write_level-at-requires : goal.write_level-at-requires
+write_level-at-requires c =
+    let ends = c.args.ends.now in
+    let i = c.levels.i in
+    let e = levels_turn ends c.levels.earlier i (omega arith) in
+    (omega (arith, orders_turn ends i (omega arith)), words_left_room e c.levels.invariant.1)
+
+pub overflow_add-earlier : goal.overflow_add-earlier
+overflow_add-earlier c =
+    let ends = c.args.ends.now in
+    omega (arith, orders_turn ends c.levels.i (omega arith))
+
+pub levels-preserved : goal.levels-preserved
+levels-preserved c =
+    let ends = c.args.ends.now in
+    let i = c.levels.i in
+    let e = levels_turn ends c.levels.earlier i (omega arith) in
+    (omega (arith, orders_turn ends i (omega arith)), words_left_less e c.levels.invariant.1 c.write_level-at.ensures)
+
+pub shape_of-out : goal.shape_of-out
+shape_of-out c = c.levels.invariant.1.kept
+
+pub returns : goal.returns
+returns c = words_left_none (levels_none c.args.ends.now c.levels.earlier c.levels.i (omega arith)) c.levels.invariant.1

@@ -1,0 +1,25 @@
+-- `constraint_words::count_terms` meets its contract. The loop's invariant: the terms counted and those from `at` on are all. The measure is the number of
+-- words left. Assumes nothing.
+use mathlib.Core.Path.{◌≡◌}
+use mathlib.Core.Logic.{⊎_elim}
+use Prim.Native.Nat.{◌-◌, ◌+◌, ◌≤◌}
+use native.Mathlib.Omega.{arith}
+use borrow.Author.Rules.{rules}
+use lib.ListN.{length, drop}
+use Rattle.constraint_words.proofs.Items.{term_count, count_past_lower, count_past_term, count_end}
+use Rattle.constraint_words.proofs.count_terms.Goals as goal
+
+pub words-init : goal.words-init
+words-init c = (omega (arith, c.requires), omega arith, omega arith)
+
+pub words-preserved : goal.words-preserved
+words-preserved c =
+    let ws = c.args.words.now in
+    let at = c.words.at in (
+      omega arith,
+      ⊎_elim (λ w. omega arith) (λ w. omega arith) c.if-kind_of-ne2.branch,
+      ⊎_elim (λ w. omega (arith, count_past_term ws at (omega arith) (omega arith))) (λ w. omega (arith, count_past_lower ws at (omega arith) (omega arith))) c.if-kind_of-ne2.branch,
+    )
+
+pub returns : goal.returns
+returns c = omega (arith, count_end c.args.words.now c.words.at (omega arith), c.words.invariant.2)

@@ -1,0 +1,25 @@
+-- `constraint_words::count_unsigned` meets its contract. The loop's invariant: the words counted and those from `at` on are all. The measure is the number of words
+-- left. Assumes nothing.
+use mathlib.Core.Path.{◌≡◌}
+use mathlib.Core.Logic.{⊎_elim}
+use Prim.Native.Nat.{◌-◌, ◌+◌, ◌≤◌}
+use native.Mathlib.Omega.{arith}
+use borrow.Author.Rules.{rules}
+use lib.ListN.{length, drop}
+use Rattle.constraint_words.specs.Plain.{unsigned_in}
+use Rattle.constraint_words.proofs.Plain.{unsigned_past, unsigned_other, unsigned_end}
+use Rattle.constraint_words.proofs.count_unsigned.Goals as goal
+
+pub words-init : goal.words-init
+words-init c = (omega arith, omega arith)
+
+pub words-preserved : goal.words-preserved
+words-preserved c =
+    let ws = c.args.words.now in
+    let at = c.words.at in (
+      ⊎_elim (λ w. omega arith) (λ w. omega arith) c.if-words-at-eq2.branch,
+      ⊎_elim (λ w. omega (arith, unsigned_past ws at (omega arith) (omega arith))) (λ w. omega (arith, unsigned_other ws at (omega arith) (omega arith))) c.if-words-at-eq2.branch,
+    )
+
+pub returns : goal.returns
+returns c = omega (arith, unsigned_end c.args.words.now c.words.at (omega arith), c.words.invariant.1)

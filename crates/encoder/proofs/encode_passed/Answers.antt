@@ -1,0 +1,17 @@
+-- `encoder::encode_passed` meets its contract: the answer is that of the constraint that the words state. Assumes nothing.
+use Rattle.constraint_words.proofs.Limits.{passed_main}
+use Rattle.encoder.proofs.Words.{promise}
+use borrow.Author.Rules.{rules}
+use Rattle.encoder.proofs.encode_passed.Goals as goal
+
+pub make-requires : goal.make-requires
+make-requires c = (passed_main c.args.limits c.args.words.now c.requires.0, c.requires.1)
+
+pub encode_record-requires : goal.encode_record-requires
+encode_record-requires c = (c.args.words.now, passed_main c.args.limits c.args.words.now c.requires.0, c.make.ensures)
+
+pub returns : goal.returns
+returns c =
+    let l = c.args.limits in
+    let ws = c.args.words.now in
+    promise l ws c.requires.0 _ _ _ _ _ _ _ (c.encode_record.ensures ws (passed_main l ws c.requires.0) c.make.ensures)

@@ -1,0 +1,7 @@
+-- `finder::below` meets its contract: the keys are compared. Assumes nothing.
+use mathlib.Core.Path.{refl}
+use borrow.Author.Rules.{rules}
+use Rattle.finder.proofs.below.Goals as goal
+
+pub returns : goal.returns
+returns c = rw (c.key_of.ensures, c.key_of-2.ensures) refl

@@ -1,0 +1,140 @@
+-- `linker::link` meets its contract. The loop's invariant: what is asked for of the records from k on stands behind what is written for those before. The
+-- measure is the number of records left. Assumes nothing.
+use Prim.Native.Nat.{◌-◌}
+use native.Mathlib.Omega.{arith}
+use mathlib.Core.Path.{refl, ◌∙◌}
+use lib.ListN.{length-set}
+use Rattle.linker.proofs.Children.{ready, linked, row_in, cleared_finished, cleared_linked, cleared_counts}
+use Rattle.linker.proofs.Turns.{Turn, turn_start, turn_next, turn_end}
+use Rattle.linker.proofs.Facts.{Facts, facts}
+use Rattle.linker.proofs.link.Goals as goal
+
+-- what holds where the loop's body begins
+known : (c : lts.In-loop (clear_reads.Asked, clear_reads.Learnt, row_reads.Asked, row_reads.Learnt) reads.Pre reads.Post invariant-loop decreases-loop)
+    → let a = c.before.before.before.before.before.before.before.before.before.before.before.args in
+    let l = c.before.loop in
+    Facts a.coefs.now a.ends.now a.rests.now a.count l.table l.edges l.first l.k
+known c =
+    let s = c.before.before.before.before.before.before.before.before.before.before.before in
+    let done = cleared_finished s.args.coefs.now s.args.ends.now s.requires.1.0 s.args.table.now _ s.args.count s.args.edges.now c.before.before.before.before.clear-entering.ensures s.requires.1.1 in
+    facts s.requires.0 (s.requires.1.0, done) c.before.loop.invariant c.loop-test.true
+
+pub clear_entering-requires : goal.clear_entering-requires
+clear_entering-requires c = c.requires.1.1.room
+
+pub loop-k-init : goal.loop-k-init
+loop-k-init c =
+    let a = c.args in
+    turn_start a.coefs.now a.ends.now a.rests.now _ a.edges.now a.count
+    (cleared_counts a.table.now _ a.count c.clear_entering.ensures c.requires.1.1.room)
+
+pub overflow_mul-b : goal.overflow_mul-b
+overflow_mul-b c = let f = known c in omega arith
+
+pub offset_bounds-table-b : goal.offset_bounds-table-b
+offset_bounds-table-b c = let f = known c in omega arith
+
+pub bounds-table-b : goal.bounds-table-b
+bounds-table-b c = let f = known c in omega arith
+
+pub overflow_sub-i : goal.overflow_sub-i
+overflow_sub-i c = let f = known c in omega arith
+
+pub overflow_add-lower : goal.overflow_add-lower
+overflow_add-lower c = let f = known c in omega arith
+
+pub offset_bounds-table-b-in-loop-k : goal.offset_bounds-table-b-in-loop-k
+offset_bounds-table-b-in-loop-k c = let f = known c in omega arith
+
+pub bounds-table-b-in-loop-k : goal.bounds-table-b-in-loop-k
+bounds-table-b-in-loop-k c = let f = known c in omega arith
+
+pub overflow_cast-at : goal.overflow_cast-at
+overflow_cast-at c = let f = known c in omega arith
+
+pub offset_bounds-ends-at : goal.offset_bounds-ends-at
+offset_bounds-ends-at c = let f = known c in omega arith
+
+pub bounds-ends-at : goal.bounds-ends-at
+bounds-ends-at c = let f = known c in omega arith
+
+pub overflow_cast-table : goal.overflow_cast-table
+overflow_cast-table c = let f = known c in omega arith
+
+pub overflow_add-table : goal.overflow_add-table
+overflow_add-table c = let f = known c in omega arith
+
+pub offset_bounds-table-b-in-loop-k-2 : goal.offset_bounds-table-b-in-loop-k-2
+offset_bounds-table-b-in-loop-k-2 c = let f = known c in omega arith
+
+pub bounds-table-b-in-loop-k-2 : goal.bounds-table-b-in-loop-k-2
+bounds-table-b-in-loop-k-2 c = let f = known c in omega arith
+
+pub overflow_add-i : goal.overflow_add-i
+overflow_add-i c = let f = known c in omega arith
+
+pub overflow_add-at : goal.overflow_add-at
+overflow_add-at c = let f = known c in omega arith
+
+pub offset_bounds-rests-at : goal.offset_bounds-rests-at
+offset_bounds-rests-at c = let f = known c in omega arith
+
+pub bounds-rests-at : goal.bounds-rests-at
+bounds-rests-at c = let f = known c in omega arith
+
+pub offset_bounds-coefs-at : goal.offset_bounds-coefs-at
+offset_bounds-coefs-at c = let f = known c in omega arith
+
+pub bounds-coefs-at : goal.bounds-coefs-at
+bounds-coefs-at c = let f = known c in omega arith
+
+pub row-requires : goal.row-requires
+row-requires c =
+    let f = known c in
+    ((f.countable.few, simp length-set f.countable.room, f.sorted), ((f.coef_small, f.here.small, f.fits), f.counts))
+
+pub overflow_cast-first : goal.overflow_cast-first
+overflow_cast-first c = let f = known c in omega arith
+
+pub overflow_add-first : goal.overflow_add-first
+overflow_add-first c = let f = known c in omega arith
+
+pub overflow_add-first-in-loop-k : goal.overflow_add-first-in-loop-k
+overflow_add-first-in-loop-k c = let f = known c in omega arith
+
+pub overflow_add-k : goal.overflow_add-k
+overflow_add-k c = let f = known c in omega arith
+
+pub loop-k-smaller : goal.loop-k-smaller
+loop-k-smaller c = let f = known c in omega arith
+
+pub loop-k-preserved : goal.loop-k-preserved
+loop-k-preserved c =
+    let a = c.args in
+    let l = c.loop-k in
+    let e = c.clear_entering.ensures in
+    let done = cleared_finished a.coefs.now a.ends.now c.requires.1.0 a.table.now _ a.count a.edges.now e c.requires.1.1 in
+    let r = ready a.coefs.now a.ends.now a.rests.now c.requires.0 c.requires.1.0 _ a.count a.edges.now done in
+    turn_next a.coefs.now a.ends.now a.rests.now _ a.edges.now a.count l.table l.edges l.first l.k
+    r.countable.room l.invariant c.loop-k-test.true r.wide _ _ _ _ _ refl refl refl
+    (row_in _ a.count r.countable.room _ _ _ _ _)
+    c.row.ensures.1 c.row.ensures.0
+
+pub shape_of-table : goal.shape_of-table
+shape_of-table c = c.loop-k.invariant.long ∙ c.clear_entering.auto.0
+
+pub shape_of-edges : goal.shape_of-edges
+shape_of-edges c = c.loop-k.invariant.wide
+
+pub returns : goal.returns
+returns c =
+    let a = c.args in
+    let l = c.loop-k in
+    let e = c.clear_entering.ensures in
+    let done = cleared_finished a.coefs.now a.ends.now c.requires.1.0 a.table.now _ a.count a.edges.now e c.requires.1.1 in
+    let r = ready a.coefs.now a.ends.now a.rests.now c.requires.0 c.requires.1.0 _ a.count a.edges.now done in
+    let end = turn_end a.coefs.now a.ends.now a.rests.now _ a.edges.now a.count l.table l.edges l.first l.k
+    r.countable.room l.invariant c.loop-k-test.false in
+    λ b f. cleared_linked a.coefs.now a.ends.now b a.table.now _ a.count a.edges.now e l.table l.edges
+    (linked a.coefs.now a.ends.now a.rests.now c.requires.0 b _ a.count a.edges.now
+    (cleared_finished a.coefs.now a.ends.now b a.table.now _ a.count a.edges.now e f) l.table l.edges end)

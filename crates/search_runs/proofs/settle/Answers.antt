@@ -1,0 +1,14 @@
+-- `search_runs::settle` meets its contract, by that of merging. Assumes nothing.
+use mathlib.Core.Path.{refl}
+use mathlib.Core.Logic.{inl, inr}
+use native.Mathlib.Omega.{arith}
+use borrow.Author.Rules.{rules}
+use Rattle.search_runs.proofs.settle.Goals as goal
+
+pub returns-then-pending-work : goal.returns-then-pending-work
+returns-then-pending-work c = (record { within = omega arith; free = omega arith; long = refl; way = inl (refl, refl) }, refl)
+
+pub returns : goal.returns
+returns c =
+    let merged = c.merge in
+    (record { within = omega arith; free = omega arith; long = merged.auto.0; way = inr (refl, merged.ensures.0) }, search rules)
