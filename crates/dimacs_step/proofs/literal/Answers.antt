@@ -1,0 +1,18 @@
+-- `dimacs_step::literal` meets its contract: a digit grows the number, any other byte must end it. Assumes nothing.
+use Rattle.word.proofs.Tests.{between_is}
+use Rattle.dimacs_step.proofs.Branches.{then_on, else_on}
+use Rattle.dimacs_text.specs.Machine.{step}
+use mathlib.Core.Path.{sym, ◌∙◌}
+use borrow.Author.Rules.{rules}
+use Rattle.dimacs_step.proofs.literal.Goals as goal
+
+pub grow-requires : goal.grow-requires
+grow-requires c = between_is 48 c.args.b 57 (sym c.is_digit.ensures ∙ c.if-is_digit.true)
+
+pub returns-then-is_digit : goal.returns-then-is_digit
+unfolding step
+returns-then-is_digit c = then_on _ (sym c.is_digit.ensures ∙ c.if-is_digit.true) c.grow.ensures
+
+pub returns : goal.returns
+unfolding step
+returns c = else_on _ (sym c.is_digit.ensures ∙ c.if-is_digit.false) c.finish.ensures

@@ -1,0 +1,8 @@
+-- `dimacs_writer::refuse` meets its contract: cleared from the start, all is zero. Assumes nothing.
+use borrow.Author.Rules.{rules}
+use mathlib.Core.Path.{refl, ◌∙◌}
+use Rattle.word.proofs.Cleared.{cleared_all}
+use Rattle.dimacs_writer.proofs.refuse.Goals as goal
+
+pub returns : goal.returns
+returns c = (refl, c.clear.ensures ∙ cleared_all c.args.out.now)

@@ -1,0 +1,50 @@
+-- `printout_lines::put_nodes` meets its contract. The invariant, for every drawing that lies in the memory: the lines of the nodes before the next are in, and those from
+-- it on are left. The measure is the number of nodes left. Assumes nothing.
+use borrow.Author.Rules.{rules}
+use mathlib.Core.Path.{refl}
+use mathlib.Core.List.{List}
+use Prim.Native.Nat.{◌-◌}
+use native.Mathlib.Omega.{arith}
+use Rattle.diagram.specs.Table.{Node}
+use Rattle.printout_lines.specs.Lying.{Lying}
+use Rattle.text.proofs.Cuts.{Left, left_all, left_less, left_none}
+use Rattle.printout_lines.proofs.Drawn.{lines_left, places, lines_turn, lines_none}
+use Rattle.printout_lines.proofs.put_nodes.Goals as goal
+
+pub nodes-init : goal.nodes-init
+nodes-init c = λ ns l. left_all _ _ _ _ refl
+
+pub overflow_add-next : goal.overflow_add-next
+overflow_add-next c = omega (arith, c.requires.1.room)
+
+pub first_edge-first-requires : goal.first_edge-first-requires
+first_edge-first-requires c = (omega arith, c.requires.1.room)
+
+pub first_edge-past-requires : goal.first_edge-past-requires
+first_edge-past-requires c = (omega arith, c.requires.1.room)
+
+pub slice_bounds-put_node-count : goal.slice_bounds-put_node-count
+slice_bounds-put_node-count c =
+    let l = c.requires.1 in
+    let w = places l c.nodes.node _ _ (omega arith) (c.first_edge-first.ensures _ _ l) (c.first_edge-past.ensures _ _ l) in
+    w.0
+
+pub offset_bounds-edges-first : goal.offset_bounds-edges-first
+offset_bounds-edges-first c = omega (arith, sub-put-node c, part-put-node-end c)
+
+pub put_node-at-requires : goal.put_node-at-requires
+put_node-at-requires c = omega (arith, c.requires.1.room)
+
+pub nodes-preserved : goal.nodes-preserved
+nodes-preserved c =
+    λ ns l.
+    left_less (lines_turn l c.nodes.node _ _ (omega arith) (c.first_edge-first.ensures ns _ l) (c.first_edge-past.ensures ns _ l)) (c.nodes.invariant ns l)
+    c.put_node-at.ensures
+
+pub shape_of-out : goal.shape_of-out
+shape_of-out c =
+    let pre = c.requires in
+    (c.nodes.invariant pre.0 pre.1).kept
+
+pub returns : goal.returns
+returns c = λ ns l. left_none (lines_none l c.nodes.node (omega arith)) (c.nodes.invariant ns l)
