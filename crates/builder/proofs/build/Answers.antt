@@ -9,13 +9,17 @@ use Rattle.builder.proofs.build.Goals as goal
 
 pub build_node-requires : goal.build_node-requires
 build_node-requires c =
-    let u : c.args.bound.0 < get_or c.args.rests.now 0 0 = omega (arith, c.requires.1.1, top_first c.args.coefs.now c.args.ends.now c.args.rests.now c.requires.0) in
-    (record { lent = c.requires.0; level = level_left c.args.coefs.now c.args.ends.now c.args.rests.now c.requires.0 0 c.args.bound.0 (omega arith) u }, ((start_good c.args.coefs.now c.args.ends.now c.args.rests.now c.requires.0 c.args.table.now _, omega (arith, c.requires.1.0, c.prepare.auto.0)), (u, none_found c.args.table.now 1 c.args.bound.0)))
+    let u : c.args.bound.0 < get_or c.args.rests.now 0 0 = omega (arith, c.requires.records_fit.1, top_first c.args.coefs.now c.args.ends.now c.args.rests.now c.requires.lent) in
+    record {
+      ready = record { lent = c.requires.lent; level = level_left c.args.coefs.now c.args.ends.now c.args.rests.now c.requires.lent 0 c.args.bound.0 (omega arith) u };
+      good = (start_good c.args.coefs.now c.args.ends.now c.args.rests.now c.requires.lent c.args.table.now _, omega (arith, c.requires.records_fit.0, c.prepare.auto.0));
+      r_bound = (u, none_found c.args.table.now 1 c.args.bound.0);
+    }
 
 pub returns-in_default : goal.returns-in_default
 returns-in_default c =
     let d = rw c.in_default.is at c.build_node.ensures in
-    (c.requires.1.1, root_short c.args.coefs.now c.args.ends.now c.args.rests.now c.requires.0 c.args.bound.0 c.args.table.now d)
+    (c.requires.records_fit.1, root_short c.args.coefs.now c.args.ends.now c.args.rests.now c.requires.lent c.args.bound.0 c.args.table.now d)
 
 pub merge-requires : goal.merge-requires
 merge-requires c =
@@ -26,5 +30,5 @@ merge-requires c =
 pub returns : goal.returns
 returns c =
     let d = rw c.in-Done.is at c.build_node.ensures in
-    let u : c.args.bound.0 < get_or c.args.rests.now 0 0 = omega (arith, c.requires.1.1, top_first c.args.coefs.now c.args.ends.now c.args.rests.now c.requires.0) in
-    root_done c.args.coefs.now c.args.ends.now c.args.rests.now c.requires.0 c.args.bound.0 c.args.table.now _ _ _ _ _ _ u d c.merge.ensures.0
+    let u : c.args.bound.0 < get_or c.args.rests.now 0 0 = omega (arith, c.requires.records_fit.1, top_first c.args.coefs.now c.args.ends.now c.args.rests.now c.requires.lent) in
+    root_done c.args.coefs.now c.args.ends.now c.args.rests.now c.requires.lent c.args.bound.0 c.args.table.now _ _ _ _ _ _ u d c.merge.ensures.merged

@@ -14,7 +14,7 @@ settle-k-requires c =
 
 pub put-requires : goal.put-requires
 put-requires c =
-    let S = c.settle-k.ensures.0 in
+    let S = c.settle-k.ensures.settled in
     let v = settled_both c.args.table.now c.args.main c.args.count (length c.args.work.now) _ _ c.requires.0.runs c.requires.0.apart S in
     (S.within, omega (arith, c.if-table-count.false, S.long), v.0.pending, settled_missing c.args.table.now c.args.main c.args.count (length c.args.work.now) _ _ c.requires.0 S c.args.level c.args.r.0 c.requires.2)
 
@@ -28,7 +28,7 @@ pub returns : goal.returns
 returns c =
     record {
       between = c.settle-k.new.0;
-      settled = c.settle-k.ensures.0;
+      settled = c.settle-k.ensures.settled;
       put = c.put.ensures;
       one = refl;
       same = refl;

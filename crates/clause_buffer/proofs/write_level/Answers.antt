@@ -12,7 +12,7 @@ use Rattle.clause_buffer.proofs.write_level.Goals as goal
 pub values-init : goal.values-init
 values-init c =
     let args = c.args in
-    words_left_all _ _ args.start args.out.now (order_all args.earlier args.end) c.requires.1
+    words_left_all _ _ args.start args.out.now (order_all args.earlier args.end) c.requires.room
 
 pub put_two-at-requires : goal.put_two-at-requires
 put_two-at-requires c =

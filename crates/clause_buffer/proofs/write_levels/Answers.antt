@@ -17,14 +17,17 @@ use Rattle.clause_buffer.proofs.write_levels.Goals as goal
 pub levels-init : goal.levels-init
 levels-init c =
     let args = c.args in
-    (omega (arith, c.requires.0), words_left_all _ _ 0 args.out.now refl c.requires.1)
+    (omega (arith, c.requires.numbers), words_left_all _ _ 0 args.out.now refl c.requires.room)
 
 pub write_level-at-requires : goal.write_level-at-requires
 write_level-at-requires c =
     let ends = c.args.ends.now in
     let i = c.levels.i in
     let e = levels_turn ends c.levels.earlier i (omega arith) in
-    (omega (arith, orders_turn ends i (omega arith)), words_left_room e c.levels.invariant.1)
+    record {
+      numbers = omega (arith, orders_turn ends i (omega arith));
+      room = words_left_room e c.levels.invariant.1;
+    }
 
 pub overflow_add-earlier : goal.overflow_add-earlier
 overflow_add-earlier c =

@@ -9,7 +9,7 @@ use Rattle.clause_writer.proofs.Turns.{before_next, before_fits}
 use Rattle.clause_writer.proofs.forward.Goals as goal
 
 pub levels-init : goal.levels-init
-levels-init c = (c.requires.0, c.requires.1.1.1)
+levels-init c = (c.requires.early, c.requires.known)
 
 pub overflow_add-earlier : goal.overflow_add-earlier
 overflow_add-earlier c =

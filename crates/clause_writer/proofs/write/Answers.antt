@@ -11,22 +11,29 @@ pub write_levels-second-requires : goal.write_levels-second-requires
 write_levels-second-requires c =
     let d = c.requires.drawing in
     let out = c.args.out.now in
-    (omega (arith, booleans d, d.numbers), room_first 0 out (groups d) (room d out c.requires.fits))
+    record {
+      numbers = omega (arith, booleans d, d.numbers);
+      room = room_first 0 out (groups d) (room d out c.requires.fits);
+    }
 
 pub write_units-third-requires : goal.write_units-third-requires
 write_units-third-requires c =
     let d = c.requires.drawing in
     let levels = c.write_levels-second in
-    let left = room_then (groups d) levels.ensures (room d c.args.out.now c.requires.fits) in (
-      omega (arith, d.numbers),
-      (omega (arith, d.root, d.numbers, d.counted), room_first levels.result levels.new.1.0 (later_groups d) left),
-    )
+    let left = room_then (groups d) levels.ensures (room d c.args.out.now c.requires.fits) in record {
+      numbers = omega (arith, d.numbers);
+      known = omega (arith, d.root, d.numbers, d.counted);
+      room = room_first levels.result levels.new.1.0 (later_groups d) left;
+    }
 
 pub write_nodes-requires : goal.write_nodes-requires
 write_nodes-requires c =
     let d = c.requires.drawing in
     let left = room_then (groups d) c.write_levels-second.ensures (room d c.args.out.now c.requires.fits) in
-    (drawn_held d, room_then (later_groups d) c.write_units-third.ensures left)
+    record {
+      held = drawn_held d;
+      room = room_then (later_groups d) c.write_units-third.ensures left;
+    }
 
 pub returns : goal.returns
 returns c =

@@ -12,27 +12,27 @@ use Rattle.clause_writer.proofs.Turns.{children_left, node_turn, children_turn, 
 use Rattle.clause_writer.proofs.write_node.Goals as goal
 
 pub child_literal-requires : goal.child_literal-requires
-child_literal-requires c = c.requires.1.1.1.0 0 c.requires.1.0
+child_literal-requires c = c.requires.known 0 c.requires.some
 
 pub put_two-at-requires : goal.put_two-at-requires
 put_two-at-requires c =
     let args = c.args in
     let w = c.literal-n.ensures ∙ ap (literal_word false) c.node_variable.ensures in
     let e =
-    node_turn args.orders args.node.0 args.earlier args.edges.now c.requires.0 w c.requires.1.0 c.child_literal.ensures in
-    room_first args.start args.out.now e c.requires.1.1.1.1
+    node_turn args.orders args.node.0 args.earlier args.edges.now c.requires.numbers w c.requires.some c.child_literal.ensures in
+    room_first args.start args.out.now e c.requires.room
 
 pub children-init : goal.children-init
 children-init c =
     let args = c.args in
     let w = c.literal-n.ensures ∙ ap (literal_word false) c.node_variable.ensures in
     let e =
-    node_turn args.orders args.node.0 args.earlier args.edges.now c.requires.0 w c.requires.1.0 c.child_literal.ensures in
+    node_turn args.orders args.node.0 args.earlier args.edges.now c.requires.numbers w c.requires.some c.child_literal.ensures in
     let put = c.put_two-at in
-    words_left_all _ _ put.result put.new.0 refl (room_then e put.ensures c.requires.1.1.1.1)
+    words_left_all _ _ put.result put.new.0 refl (room_then e put.ensures c.requires.room)
 
 pub child_literal-requires-in-children : goal.child_literal-requires-in-children
-child_literal-requires-in-children c = c.requires.1.1.1.0 c.children.j (omega arith)
+child_literal-requires-in-children c = c.requires.known c.children.j (omega arith)
 
 pub put_three-at-requires : goal.put_three-at-requires
 put_three-at-requires c =
@@ -40,7 +40,7 @@ put_three-at-requires c =
     let args = c.args in
     let w = c.literal-n.ensures ∙ ap (literal_word false) c.node_variable.ensures in
     let e =
-    children_turn args.orders args.node.0 args.earlier args.edges.now c.children.j c.requires.0 w h
+    children_turn args.orders args.node.0 args.earlier args.edges.now c.children.j c.requires.numbers w h
     c.literal-b.ensures c.child_literal-in-children.ensures in
     words_left_room e c.children.invariant
 
@@ -50,7 +50,7 @@ children-preserved c =
     let args = c.args in
     let w = c.literal-n.ensures ∙ ap (literal_word false) c.node_variable.ensures in
     let e =
-    children_turn args.orders args.node.0 args.earlier args.edges.now c.children.j c.requires.0 w h
+    children_turn args.orders args.node.0 args.earlier args.edges.now c.children.j c.requires.numbers w h
     c.literal-b.ensures c.child_literal-in-children.ensures in
     words_left_less e c.children.invariant c.put_three-at.ensures
 
@@ -62,6 +62,6 @@ returns c =
     let args = c.args in
     let w = c.literal-n.ensures ∙ ap (literal_word false) c.node_variable.ensures in
     let e =
-    node_turn args.orders args.node.0 args.earlier args.edges.now c.requires.0 w c.requires.1.0 c.child_literal.ensures in
+    node_turn args.orders args.node.0 args.earlier args.edges.now c.requires.numbers w c.requires.some c.child_literal.ensures in
     let done = children_none args.orders (boolean c.literal-n.result) args.earlier args.edges.now c.children.j (omega arith) in
     wrote_words_as (sym e.joined) (wrote_words_then c.put_two-at.ensures (words_left_none done c.children.invariant))

@@ -12,14 +12,14 @@ use Rattle.clause_writer.proofs.Turns.{node_asked, nodes_left, nodes_turn, nodes
 use Rattle.clause_writer.proofs.write_nodes.Goals as goal
 
 pub nodes-init : goal.nodes-init
-nodes-init c = (refl, words_left_all _ _ c.args.start c.args.out.now refl c.requires.1)
+nodes-init c = (refl, words_left_all _ _ c.args.start c.args.out.now refl c.requires.room)
 
 pub overflow_cast-next : goal.overflow_cast-next
 overflow_cast-next c = omega (arith, c.shared_slice_known-in-nodes-1.given (c.nodes.k * record_words))
 
 pub overflow_sub-next : goal.overflow_sub-next
 overflow_sub-next c =
-    let s = c.requires.0.each c.nodes.k (omega arith) in
+    let s = c.requires.held.each c.nodes.k (omega arith) in
     omega arith
 
 pub overflow_cast-first : goal.overflow_cast-first
@@ -27,12 +27,12 @@ overflow_cast-first c = omega (arith, c.shared_slice_known-in-nodes-2-1.given (c
 
 pub offset_bounds-ends-next : goal.offset_bounds-ends-next
 offset_bounds-ends-next c =
-    let s = c.requires.0.each c.nodes.k (omega arith) in
+    let s = c.requires.held.each c.nodes.k (omega arith) in
     omega arith
 
 pub bounds-ends-next : goal.bounds-ends-next
 bounds-ends-next c =
-    let s = c.requires.0.each c.nodes.k (omega arith) in
+    let s = c.requires.held.each c.nodes.k (omega arith) in
     omega arith
 
 pub overflow_cast-past : goal.overflow_cast-past
@@ -40,36 +40,46 @@ overflow_cast-past c = omega (arith, c.shared_slice_known-in-nodes-3-1.given ((r
 
 pub overflow_add-past : goal.overflow_add-past
 overflow_add-past c =
-    let s = c.requires.0.each c.nodes.k (omega arith) in
+    let s = c.requires.held.each c.nodes.k (omega arith) in
     omega arith
 
 pub overflow_add-past-in-nodes : goal.overflow_add-past-in-nodes
 overflow_add-past-in-nodes c =
-    let s = c.requires.0.each c.nodes.k (omega arith) in
+    let s = c.requires.held.each c.nodes.k (omega arith) in
     omega arith
 
 pub before_level-earlier-requires : goal.before_level-earlier-requires
 before_level-earlier-requires c =
-    let held = c.requires.0 in
+    let held = c.requires.held in
     let s = held.each c.nodes.k (omega arith) in
-    (omega arith, (omega (arith, held.booleans, held.numbers), c.nodes.invariant.0))
+    record {
+      late = omega arith;
+      numbers = omega (arith, held.booleans, held.numbers);
+      known = c.nodes.invariant.0;
+    }
 
 pub offset_bounds-edges-first : goal.offset_bounds-edges-first
 offset_bounds-edges-first c =
-    let s = c.requires.0.each c.nodes.k (omega arith) in
+    let s = c.requires.held.each c.nodes.k (omega arith) in
     omega arith
 
 pub write_node-at-requires : goal.write_node-at-requires
 write_node-at-requires c =
-    let held = c.requires.0 in
+    let held = c.requires.held in
     let before = c.before_level-earlier.ensures in
     let e = nodes_turn held c.nodes.k (omega arith) before in
     let a = node_asked held c.nodes.k (omega arith) before in
-    (a.numbers, (a.some, (a.values, (a.known, words_left_room e c.nodes.invariant.1))))
+    record {
+      numbers = a.numbers;
+      some = a.some;
+      values = a.values;
+      known = a.known;
+      room = words_left_room e c.nodes.invariant.1;
+    }
 
 pub nodes-preserved : goal.nodes-preserved
 nodes-preserved c =
-    let held = c.requires.0 in
+    let held = c.requires.held in
     let before = c.before_level-earlier.ensures in
     let e = nodes_turn held c.nodes.k (omega arith) before in
     (before, words_left_less e c.nodes.invariant.1 c.write_node-at.ensures)
@@ -78,4 +88,4 @@ pub shape_of-out : goal.shape_of-out
 shape_of-out c = c.nodes.invariant.1.kept
 
 pub returns : goal.returns
-returns c = words_left_none (nodes_none c.requires.0 c.nodes.k (omega arith)) c.nodes.invariant.1
+returns c = words_left_none (nodes_none c.requires.held c.nodes.k (omega arith)) c.nodes.invariant.1

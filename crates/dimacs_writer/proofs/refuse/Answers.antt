@@ -5,4 +5,7 @@ use Rattle.word.proofs.Cleared.{cleared_all}
 use Rattle.dimacs_writer.proofs.refuse.Goals as goal
 
 pub returns : goal.returns
-returns c = (refl, c.clear.ensures ∙ cleared_all c.args.out.now)
+returns c = record {
+      value = refl;
+      out_after = c.clear.ensures ∙ cleared_all c.args.out.now;
+    }

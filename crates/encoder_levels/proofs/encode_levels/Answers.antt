@@ -7,7 +7,10 @@ pub finish-requires : goal.finish-requires
 finish-requires c =
     let z = bound_of_some c.args.bound in
     let d = rw c.in-Rooted.is at (c.draw.ensures z.0 z.1) in
-    (c.requires.0, (z.0, recounted _ _ _ _ c.requires.1 d.1))
+    record {
+      lent = c.requires.lent;
+      tabled = (z.0, recounted _ _ _ _ c.requires.orders_value d.1);
+    }
 
 pub returns-in-Full : goal.returns-in-Full
 returns-in-Full c =
@@ -20,4 +23,4 @@ returns-in-Rooted c =
     λ a e.
     let d = rw c.in-Rooted.is at (c.draw.ensures a e) in
     same_answer c.args.limits c.args.coefs.now c.args.ends.now a c.args.table.now _ _ c.args.clauses.now _ _ _ _ _ c.draw.auto.1.1.1.1.1.0 c.draw.auto.1.1.1.1.1.1.0
-    (c.finish.ensures c.args.limits a d.0 (recounted _ _ _ _ c.requires.1 d.1))
+    (c.finish.ensures c.args.limits a d.0 (recounted _ _ _ _ c.requires.orders_value d.1))

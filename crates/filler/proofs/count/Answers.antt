@@ -12,13 +12,13 @@ abbrev counts : ℕ → ℕ → ℕ → ℕ → Counts
 counts n D terms sum = record { nodes = n; edges = n + sum; words = 3 * (D - terms) + 6 + 3 * n + 4 * sum }
 
 pub overflow_add-result : goal.overflow_add-result
-overflow_add-result c = omega (arith, c.sum_ends-sum.ensures, sum_small c.requires.0, c.requires.0.few)
+overflow_add-result c = omega (arith, c.sum_ends-sum.ensures, sum_small c.requires.countable, c.requires.countable.few)
 
 pub overflow_mul-result-3 : goal.overflow_mul-result-3
-overflow_mul-result-3 c = omega (arith, c.sum_ends-sum.ensures, sum_small c.requires.0, c.requires.0.few)
+overflow_mul-result-3 c = omega (arith, c.sum_ends-sum.ensures, sum_small c.requires.countable, c.requires.countable.few)
 
 pub overflow_add-result-4 : goal.overflow_add-result-4
-overflow_add-result-4 c = omega (arith, c.sum_ends-sum.ensures, sum_small c.requires.0, c.requires.0.few)
+overflow_add-result-4 c = omega (arith, c.sum_ends-sum.ensures, sum_small c.requires.countable, c.requires.countable.few)
 
 pub returns : goal.returns
 returns c = ap (λ (sum : ℕ). counts c.args.nodes c.args.orders (length c.args.ends.now) sum) c.sum_ends-sum.ensures

@@ -8,10 +8,19 @@ use Rattle.io.proofs.Counting.{prefix_len_of_le}
 use Rattle.input.proofs.read_input.Goals as goal
 
 pub returns-then-read : goal.returns-then-read
-returns-then-read c = (λ e. search rules, search rules)
+returns-then-read c = record {
+      count_value = λ e. search rules;
+      prefix_len = search rules;
+    }
 
 pub returns-after-reads : goal.returns-after-reads
-returns-after-reads c = (λ e. absurd (subst T (sym e) tt), prefix_len_of_le _ _ (search rules))
+returns-after-reads c = record {
+      count_value = λ e. absurd (subst T (sym e) tt);
+      prefix_len = prefix_len_of_le _ _ (search rules);
+    }
 
 pub returns-then-read-eq0 : goal.returns-then-read-eq0
-returns-then-read-eq0 c = (λ e. absurd (subst T (sym e) tt), prefix_len_of_le _ _ (search rules))
+returns-then-read-eq0 c = record {
+      count_value = λ e. absurd (subst T (sym e) tt);
+      prefix_len = prefix_len_of_le _ _ (search rules);
+    }

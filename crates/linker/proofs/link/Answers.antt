@@ -20,13 +20,13 @@ known c =
     facts s.requires.0 (s.requires.1.0, done) c.before.loop.invariant c.loop-test.true
 
 pub clear_entering-requires : goal.clear_entering-requires
-clear_entering-requires c = c.requires.1.1.room
+clear_entering-requires c = c.requires.finished.1.room
 
 pub loop-k-init : goal.loop-k-init
 loop-k-init c =
     let a = c.args in
     turn_start a.coefs.now a.ends.now a.rests.now _ a.edges.now a.count
-    (cleared_counts a.table.now _ a.count c.clear_entering.ensures c.requires.1.1.room)
+    (cleared_counts a.table.now _ a.count c.clear_entering.ensures c.requires.finished.1.room)
 
 pub overflow_mul-b : goal.overflow_mul-b
 overflow_mul-b c = let f = known c in omega arith
@@ -91,7 +91,11 @@ bounds-coefs-at c = let f = known c in omega arith
 pub row-requires : goal.row-requires
 row-requires c =
     let f = known c in
-    ((f.countable.few, simp length-set f.countable.room, f.sorted), ((f.coef_small, f.here.small, f.fits), f.counts))
+    record {
+      count_le_most_nodes = (f.countable.few, simp length-set f.countable.room, f.sorted);
+      coef_le_last_coefficient = (f.coef_small, f.here.small, f.fits);
+      counts_fit = f.counts;
+    }
 
 pub overflow_cast-first : goal.overflow_cast-first
 overflow_cast-first c = let f = known c in omega arith
@@ -113,12 +117,12 @@ loop-k-preserved c =
     let a = c.args in
     let l = c.loop-k in
     let e = c.clear_entering.ensures in
-    let done = cleared_finished a.coefs.now a.ends.now c.requires.1.0 a.table.now _ a.count a.edges.now e c.requires.1.1 in
-    let r = ready a.coefs.now a.ends.now a.rests.now c.requires.0 c.requires.1.0 _ a.count a.edges.now done in
+    let done = cleared_finished a.coefs.now a.ends.now c.requires.finished.0 a.table.now _ a.count a.edges.now e c.requires.finished.1 in
+    let r = ready a.coefs.now a.ends.now a.rests.now c.requires.lent c.requires.finished.0 _ a.count a.edges.now done in
     turn_next a.coefs.now a.ends.now a.rests.now _ a.edges.now a.count l.table l.edges l.first l.k
     r.countable.room l.invariant c.loop-k-test.true r.wide _ _ _ _ _ refl refl refl
     (row_in _ a.count r.countable.room _ _ _ _ _)
-    c.row.ensures.1 c.row.ensures.0
+    c.row.ensures.table_after c.row.ensures.edges_after
 
 pub shape_of-table : goal.shape_of-table
 shape_of-table c = c.loop-k.invariant.long ∙ c.clear_entering.auto.0
@@ -131,10 +135,10 @@ returns c =
     let a = c.args in
     let l = c.loop-k in
     let e = c.clear_entering.ensures in
-    let done = cleared_finished a.coefs.now a.ends.now c.requires.1.0 a.table.now _ a.count a.edges.now e c.requires.1.1 in
-    let r = ready a.coefs.now a.ends.now a.rests.now c.requires.0 c.requires.1.0 _ a.count a.edges.now done in
+    let done = cleared_finished a.coefs.now a.ends.now c.requires.finished.0 a.table.now _ a.count a.edges.now e c.requires.finished.1 in
+    let r = ready a.coefs.now a.ends.now a.rests.now c.requires.lent c.requires.finished.0 _ a.count a.edges.now done in
     let end = turn_end a.coefs.now a.ends.now a.rests.now _ a.edges.now a.count l.table l.edges l.first l.k
     r.countable.room l.invariant c.loop-k-test.false in
     λ b f. cleared_linked a.coefs.now a.ends.now b a.table.now _ a.count a.edges.now e l.table l.edges
-    (linked a.coefs.now a.ends.now a.rests.now c.requires.0 b _ a.count a.edges.now
+    (linked a.coefs.now a.ends.now a.rests.now c.requires.lent b _ a.count a.edges.now
     (cleared_finished a.coefs.now a.ends.now b a.table.now _ a.count a.edges.now e f) l.table l.edges end)

@@ -38,7 +38,7 @@ child-c-requires c =
     let e = c.loop-j.invariant.4 in
     let same = ap (λ t. take c.args.count (labels t)) e ∙ ap (take c.args.count) (entered_labels c.args.table.now _) in
     let long = ap length e ∙ entered_length c.args.table.now _ in
-    (omega (arith, c.requires.0.1, long), subst Sorted (sym same) c.requires.0.2)
+    (omega (arith, c.requires.count_le_most_nodes.1, long), subst Sorted (sym same) c.requires.count_le_most_nodes.2)
 
 pub edge_word-requires : goal.edge_word-requires
 edge_word-requires c =
@@ -46,7 +46,7 @@ edge_word-requires c =
     let long = ap length l.invariant.4 ∙ entered_length c.args.table.now _ in
     rw c.child-c.ensures
     (leads_fit (labelled l.table c.args.count) c.args.level c.args.top (sub_ℕ c.args.lower l.taken)
-    (omega (arith, c.requires.0.0, labelled_length l.table c.args.count (omega (arith, c.requires.0.1, long)))))
+    (omega (arith, c.requires.count_le_most_nodes.0, labelled_length l.table c.args.count (omega (arith, c.requires.count_le_most_nodes.1, long)))))
 
 pub enter-requires : goal.enter-requires
 enter-requires c =
@@ -56,13 +56,13 @@ enter-requires c =
     let row = row_of xs a.level a.top a.coef a.end a.lower in
     let e = edge_of c.child-c.result in
     let long = ap length l.invariant.4 ∙ entered_length a.table.now _ in
-    let m = labelled_length l.table a.count (omega (arith, c.requires.0.1, long)) in
+    let m = labelled_length l.table a.count (omega (arith, c.requires.count_le_most_nodes.1, long)) in
     let inside : Inside a.count e =
     subst (λ k. Inside k e) m (rw c.child-c.ensures (leads_inside (labelled l.table a.count) a.level a.top (sub_ℕ a.lower l.taken))) in
     subst (λ t. CanEnter t e) (sym l.invariant.4)
-    (can_enter a.table.now row a.count l.j e c.requires.0.1 c.requires.1.1
-    (row_in a.table.now a.count c.requires.0.1 a.level a.top a.coef a.end a.lower)
-    (omega (arith, c.requires.1.0.1))
+    (can_enter a.table.now row a.count l.j e c.requires.count_le_most_nodes.1 c.requires.counts_fit
+    (row_in a.table.now a.count c.requires.count_le_most_nodes.1 a.level a.top a.coef a.end a.lower)
+    (omega (arith, c.requires.coef_le_last_coefficient.1))
     inside)
 
 pub overflow_add-taken : goal.overflow_add-taken
@@ -100,8 +100,8 @@ returns c =
     let l = c.loop-j in
     let xs = labelled a.table.now a.count in
     let row = row_of xs a.level a.top a.coef a.end a.lower in
-    let e : l.j ≡ a.end + 1 = omega arith in (
-      l.invariant.2 ∙ ap (paste a.edges.now a.first (map edge_word row)) e,
-      l.invariant.4
-          ∙ ap (entered a.table.now) (take_all l.j row (omega (arith, row_long xs a.level a.top a.coef a.end a.lower))),
-    )
+    let e : l.j ≡ a.end + 1 = omega arith in record {
+      edges_after = l.invariant.2 ∙ ap (paste a.edges.now a.first (map edge_word row)) e;
+      table_after = l.invariant.4
+          ∙ ap (entered a.table.now) (take_all l.j row (omega (arith, row_long xs a.level a.top a.coef a.end a.lower)));
+    }

@@ -13,8 +13,11 @@ edges-init c = row_starts _ _ _ _
 
 pub edge_right-requires : goal.edge_right-requires
 edge_right-requires c =
-    let small = offset_small _ _ _ _ _ _ c.edges.invariant c.requires.1 in
-    (c.requires.0, omega (arith, c.requires.1.2))
+    let small = offset_small _ _ _ _ _ _ c.edges.invariant c.requires.small in
+    record {
+      known = c.requires.known;
+      small = omega (arith, c.requires.small.2);
+    }
 
 pub returns-then-not-edge_right : goal.returns-then-not-edge_right
 returns-then-not-edge_right c =
@@ -23,8 +26,8 @@ returns-then-not-edge_right c =
 
 pub overflow_add-offset : goal.overflow_add-offset
 overflow_add-offset c =
-    let small = offset_small _ _ _ _ _ _ c.edges.invariant c.requires.1 in
-    omega (arith, c.requires.1.1)
+    let small = offset_small _ _ _ _ _ _ c.edges.invariant c.requires.small in
+    omega (arith, c.requires.small.1)
 
 pub edges-preserved : goal.edges-preserved
 edges-preserved c =

@@ -19,7 +19,7 @@ returns c =
     let p = c.encode-reply.ensures in
     let ws = c.args.words.now in
     let ns = nodes_for (stated ws) in
-    let cs = clauses_for (stated ws) in (
-      wrote_as (ap (λ (r : Encoded). reply_text c.args.form r ns cs) p.reply.same) (c.put_reply.ensures ns cs (promised _ _ _ _ _ _ _ _ p)),
-      left_of _ _ _ _ _ _ _ _ p,
-    )
+    let cs = clauses_for (stated ws) in record {
+      wrote = wrote_as (ap (λ (r : Encoded). reply_text c.args.form r ns cs) p.reply.same) (c.put_reply.ensures ns cs (promised _ _ _ _ _ _ _ _ p));
+      leaves = left_of _ _ _ _ _ _ _ _ p;
+    }

@@ -18,10 +18,16 @@ pub overflow_add-next : goal.overflow_add-next
 overflow_add-next c = omega (arith, c.requires.1.room)
 
 pub first_edge-first-requires : goal.first_edge-first-requires
-first_edge-first-requires c = (omega arith, c.requires.1.room)
+first_edge-first-requires c = record {
+      k_le_count = omega arith;
+      records_fit = c.requires.1.room;
+    }
 
 pub first_edge-past-requires : goal.first_edge-past-requires
-first_edge-past-requires c = (omega arith, c.requires.1.room)
+first_edge-past-requires c = record {
+      k_le_count = omega arith;
+      records_fit = c.requires.1.room;
+    }
 
 pub slice_bounds-put_node-count : goal.slice_bounds-put_node-count
 slice_bounds-put_node-count c =

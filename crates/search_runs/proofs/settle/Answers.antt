@@ -6,9 +6,15 @@ use borrow.Author.Rules.{rules}
 use Rattle.search_runs.proofs.settle.Goals as goal
 
 pub returns-then-pending-work : goal.returns-then-pending-work
-returns-then-pending-work c = (record { within = omega arith; free = omega arith; long = refl; way = inl (refl, refl) }, refl)
+returns-then-pending-work c = record {
+      settled = record { within = omega arith; free = omega arith; long = refl; way = inl (refl, refl) };
+      work_len_unchanged = refl;
+    }
 
 pub returns : goal.returns
 returns c =
     let merged = c.merge in
-    (record { within = omega arith; free = omega arith; long = merged.auto.0; way = inr (refl, merged.ensures.0) }, search rules)
+    record {
+      settled = record { within = omega arith; free = omega arith; long = merged.auto.0; way = inr (refl, merged.ensures.0) };
+      work_len_unchanged = search rules;
+    }
