@@ -47,5 +47,5 @@ right_drawing {ls} {a} {ns} {top} {ds} {D} {t} {count} {es} r ends booleans numb
     child n j h k =
         let l = own_level_lem ls a ns top r n h in
         let z : ℤ = pos (node_at ns n).lab.lower in
-        leads_inside ls ns D _ (get_or (node_at ns n).children j F) (less z ((level_at ls l.0).off j))
+        leads_inside ls ns D (suc l.0) (get_or (node_at ns n).children j F) (less z ((level_at ls l.0).off j))
         (r.child n l.0 l.2 j (omega (arith, r.rows n l.0 l.2)) z (le_refl _, r.filled n h))

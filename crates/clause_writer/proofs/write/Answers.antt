@@ -23,7 +23,7 @@ write_units-third-requires c =
     let left = room_then (groups d) levels.ensures (room d c.args.out.now c.requires.fits) in record {
       numbers = omega (arith, d.numbers);
       known = omega (arith, d.root, d.numbers, d.counted);
-      room = room_first levels.result levels.new.1.0 (later_groups d) left;
+      room = room_first levels.result levels.new.out (later_groups d) left;
     }
 
 pub write_nodes-requires : goal.write_nodes-requires

@@ -29,7 +29,7 @@ children-init c =
     let e =
     node_turn args.orders args.node.0 args.earlier args.edges.now c.requires.numbers w c.requires.some c.child_literal.ensures in
     let put = c.put_two-at in
-    words_left_all _ _ put.result put.new.0 refl (room_then e put.ensures c.requires.room)
+    words_left_all _ _ put.result put.new.out refl (room_then e put.ensures c.requires.room)
 
 pub child_literal-requires-in-children : goal.child_literal-requires-in-children
 child_literal-requires-in-children c = c.requires.known c.children.j (omega arith)

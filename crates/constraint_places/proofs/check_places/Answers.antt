@@ -22,7 +22,7 @@ pub returns-then-not-can_stand : goal.returns-then-not-can_stand
 returns-then-not-can_stand c =
     let ws = c.args.words.now in
     let stands : can_stand c.places.due (kind (get_or ws c.places.at 0)) ≡ false =
-    ap (can_stand c.places.due) (sym c.kind_of-kind.ensures) ∙ sym c.can_stand.ensures ∙ not-true c.can_stand.result c.if-not-can_stand.true in
+    ap (can_stand c.places.due) (sym c.kind_of-kind.ensures) ∙ sym c.can_stand.ensures ∙ c.if-not-can_stand.true in
     sym (c.places.invariant.1 ∙ placed_refused ws c.places.due c.places.at (omega arith) stands)
 
 pub places-preserved : goal.places-preserved
@@ -30,7 +30,7 @@ places-preserved c =
     let ws = c.args.words.now in
     let is = c.kind_of-kind.ensures in
     let stands : can_stand c.places.due (kind (get_or ws c.places.at 0)) ≡ true =
-    ap (can_stand c.places.due) (sym is) ∙ sym c.can_stand.ensures ∙ not-false c.can_stand.result c.if-not-can_stand.false in (
+    ap (can_stand c.places.due) (sym is) ∙ sym c.can_stand.ensures ∙ c.if-not-can_stand.false in (
       omega arith,
       c.places.invariant.1 ∙ placed_on ws c.places.due c.places.at (omega arith) stands
           ∙ ap (λ (n : ℕ). placed_from (eqb n 2) (c.places.at + 1) (drop (c.places.at + 1) ws)) (sym is),

@@ -8,6 +8,7 @@ use borrow.Author.Rules.{rules}
 use lib.ListN.{length, drop}
 use Rattle.constraint_words.proofs.Items.{term_count, count_past_lower, count_past_term, count_end}
 use Rattle.constraint_words.proofs.count_terms.Goals as goal
+use Rattle.constraint_words.proofs.count_terms.Goals.{else-kind_of-ne2, then-kind_of-ne2}
 
 pub words-init : goal.words-init
 words-init c = (omega (arith, c.requires), omega arith, omega arith)
@@ -17,8 +18,8 @@ words-preserved c =
     let ws = c.args.words.now in
     let at = c.words.at in (
       omega arith,
-      ⊎_elim (λ w. omega arith) (λ w. omega arith) c.if-kind_of-ne2.branch,
-      ⊎_elim (λ w. omega (arith, count_past_term ws at (omega arith) (omega arith))) (λ w. omega (arith, count_past_lower ws at (omega arith) (omega arith))) c.if-kind_of-ne2.branch,
+      elim c.if-kind_of-ne2.branch [ then-kind_of-ne2 w ↦ omega arith | else-kind_of-ne2 w ↦ omega arith ],
+      elim c.if-kind_of-ne2.branch [ then-kind_of-ne2 w ↦ omega (arith, count_past_term ws at (omega arith) (omega arith)) | else-kind_of-ne2 w ↦ omega (arith, count_past_lower ws at (omega arith) (omega arith)) ],
     )
 
 pub returns : goal.returns

@@ -9,6 +9,7 @@ use lib.ListN.{length, drop}
 use Rattle.constraint_words.specs.Plain.{unsigned_in}
 use Rattle.constraint_words.proofs.Plain.{unsigned_past, unsigned_other, unsigned_end}
 use Rattle.constraint_words.proofs.count_unsigned.Goals as goal
+use Rattle.constraint_words.proofs.count_unsigned.Goals.{else-words-at-eq2, then-words-at-eq2}
 
 pub words-init : goal.words-init
 words-init c = (omega arith, omega arith)
@@ -17,8 +18,8 @@ pub words-preserved : goal.words-preserved
 words-preserved c =
     let ws = c.args.words.now in
     let at = c.words.at in (
-      ⊎_elim (λ w. omega arith) (λ w. omega arith) c.if-words-at-eq2.branch,
-      ⊎_elim (λ w. omega (arith, unsigned_past ws at (omega arith) (omega arith))) (λ w. omega (arith, unsigned_other ws at (omega arith) (omega arith))) c.if-words-at-eq2.branch,
+      elim c.if-words-at-eq2.branch [ then-words-at-eq2 w ↦ omega arith | else-words-at-eq2 w ↦ omega arith ],
+      elim c.if-words-at-eq2.branch [ then-words-at-eq2 w ↦ omega (arith, unsigned_past ws at (omega arith) (omega arith)) | else-words-at-eq2 w ↦ omega (arith, unsigned_other ws at (omega arith) (omega arith)) ],
     )
 
 pub returns : goal.returns

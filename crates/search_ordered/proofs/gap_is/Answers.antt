@@ -13,11 +13,11 @@ returns-then-not-last_below c e = absurd (true≢false (sym e))
 
 pub returns-then-count-n : goal.returns-then-count-n
 returns-then-count-n c e =
-    let first = sym c.last_below.ensures ∙ not-false c.last_below.result c.if-not-last_below.false in
+    let first = sym c.last_below.ensures ∙ c.if-not-last_below.false in
     bracket_met _ c.requires.1 _ _ (search rules) _ _ (bracket_from _ c.requires.1 _ _ _ _ (sym (labelled_length _ _ c.requires.0)) first) c.if-count-n.true
 
 pub returns : goal.returns
 returns c e =
-    let first = sym c.last_below.ensures ∙ not-false c.last_below.result c.if-not-last_below.false in
+    let first = sym c.last_below.ensures ∙ c.if-not-last_below.false in
     let test = words_below _ _ c.requires.0 c.args.n (omega arith) _ _ _ _ (not-true c.below.result e) c.below.ensures in
     bracket_met _ c.requires.1 _ _ (search rules) _ _ (bracket_down _ c.requires.1 _ _ c.args.n c.args.count c.args.n (bracket_from _ c.requires.1 _ _ _ _ (sym (labelled_length _ _ c.requires.0)) first) (omega arith) (omega arith) test) (omega arith)
