@@ -1,6 +1,6 @@
 -- The turns of the loops: what is left to write from one node or child on is its clauses, and what is left from the next on.
 -- Assumes nothing.
-use mathlib.Core.Path.{◌≡◌, sym, ap, subst}
+use mathlib.Core.Path.{◌≡◌, sym, ap, ◌∙◌, subst}
 use mathlib.Core.List.{List, [], ◌∷◌, map}
 use mathlib.Core.Bool.{true, false}
 use Prim.Native.Nat.{ℕ, zero, suc, ◌+◌, ◌-◌, ◌≤◌, ◌<◌}
@@ -59,9 +59,13 @@ pub children_turn : (D k b : ℕ) (ws : List ℕ) (j : ℕ) {w o c : ℕ} → ed
     → o ≡ literal_word true (b + j) → c ≡ literal_word true (edge_boolean D (edge_in (get_or ws j 0)))
     → Parts (children_left D (boolean w) b ws j) (w ∷ o ∷ c ∷ end_word 3 ∷ []) (children_left D (boolean w) b ws (j + 1))
 children_turn D k b ws j {w} {o} {c} fits p h q r =
-    let e : boolean (literal_word false (edge_boolean D (to k))) ≡ edge_boolean D (to k) = omega arith in
+    let e : literal_word false (boolean w) ≡ w = ap (literal_word false) (omega arith) ∙ sym p in
     let f : suc (b + j) ≡ b + (j + 1) = omega arith in
-    record { joined = rw (drop-cons ws j 0, p, e, q, r, ← f, add-one) }
+    let g : suc j ≡ j + 1 = omega arith in
+    record {
+      joined = ap (λ (l : List ℕ). words_of (children_of D (boolean w) (b + j) (map edge_in l))) (drop-cons ws j 0 h)
+          ∙ (λ i. e i ∷ sym q i ∷ sym r i ∷ end_word 3 ∷ words_of (children_of D (boolean w) (f i) (map edge_in (drop (g i) ws))));
+    }
 
 pub children_none : (D n b : ℕ) (ws : List ℕ) (j : ℕ) → length ws ≤ j → children_left D n b ws j ≡ []
 children_none D n b ws j h = ap (λ (l : List ℕ). words_of (children_of D n (b + j) (map edge_in l))) (drop_of_length-le ws h)

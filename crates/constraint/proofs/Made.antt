@@ -32,6 +32,11 @@ use Rattle.constraint.proofs.Filling.{FilledFrom, filled_none, filled_next, Comp
 use Rattle.constraint.proofs.Laws.{sums_fit}
 use Rattle.constraint_bound.proofs.Shifting.{sub_is, differ_is}
 
+-- sums that fit with a word's coefficient and domain end fit with what the code read as these
+pub fits_as : (rest orders : ℕ) {x y coefficient' end : ℕ} → coefficient' ≡ x → end ≡ y → (rest + x * y ≤ greatest_sum) × (orders + y ≤ most_orders)
+    → (rest + coefficient' * end ≤ greatest_sum) × (orders + end ≤ most_orders)
+fits_as rest orders e f h = rw (e, f) h
+
 -- The terms of the items from a place on, in the base form.
 abbrev pub terms_at : List ℕ → ℕ → List SignedTerm
 terms_at ws at = terms_from (pos 0) (drop at ws)

@@ -11,7 +11,7 @@ use Rattle.search_store.specs.Copy.{copied}
 use Rattle.search_store.proofs.copy_words.Given as goal
 
 abbrev pub invariant-loop-k : goal.invariant-loop-k
-invariant-loop-k l = (l.k ≤ length l.from) × (length l.to ≡ length l.initial.to) × (l.to ≡ begun l.from l.initial.to l.k)
+invariant-loop-k l = (l.k ≤ length l.from) × (length l.to ≡ length l.initial.to) × (l.to ≡ take l.k l.from ++ drop l.k l.initial.to)
 
 abbrev pub decreases-loop-k : goal.decreases-loop-k
 decreases-loop-k l = length l.from - l.k

@@ -21,7 +21,7 @@ returns-then-terms-lt1 c =
     let n = length ws - 1 in
     let most = c.counted_as-most.ensures in
     sym (plain_3 ws c.requires.1 l c.requires.0
-    (⊎_elim (λ u. up_to_below (term_limit l) n (omega arith)) (λ u. up_to_above (term_limit l) n (omega arith) (omega (arith, most, ltb-true))) c.then-terms-lt1.branch))
+    (⊎_elim (λ u. up_to_below (term_limit l) n (omega arith)) (λ u. up_to_above (term_limit l) n (omega arith) (omega (arith, most, ltb-true))) c.then-terms-lt1.either))
 
 pub returns : goal.returns
 returns c =

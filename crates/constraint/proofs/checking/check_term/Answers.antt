@@ -16,7 +16,7 @@ returns-then-end-lt1 c =
     let w = c.args.w in
     let end = domain_end w in
     rw (ne_eqb (kind w) 2 (omega arith))
-    (⊎_elim (λ u. rw (up_to_below last_end end (omega arith))) (λ u. rw (up_to_above last_end end (omega arith) (omega (arith, ltb-true)))) c.then-end-lt1.branch)
+    (⊎_elim (λ u. rw (up_to_below last_end end (omega arith))) (λ u. rw (up_to_above last_end end (omega arith) (omega (arith, ltb-true)))) c.then-end-lt1.either)
 
 pub returns-then-coefficient_of-lt1 : goal.returns-then-coefficient_of-lt1
 returns-then-coefficient_of-lt1 c =

@@ -11,40 +11,8 @@ use Rattle.constraint_words.specs.Reading.{relation_in, terms_in}
 use Rattle.limits.specs.Limits.{main_limits}
 use Rattle.constraint_words.proofs.Laws.{checked_all}
 use Rattle.constraint_words.proofs.Items.{term_count, first_within}
-use Rattle.constraint.proofs.Made.{Made, made_none, item_before_lem, more_fits, bound_fits, places_known, shift_known, made_turn, made_all}
+use Rattle.constraint.proofs.Made.{Made, made_none, item_before_lem, more_fits, fits_as, bound_fits, places_known, shift_known, made_turn, made_all}
 use Rattle.constraint.proofs.making.make_items.Goals as goal
-
--- A turn of the loop, once the level's coefficient and domain end are known, and that both sums with this level fit.
-abbrev Turn : Type 0
-Turn =
-    lts.After-end-of (
-      is-turned-reads.Asked,
-      is-turned-reads.Learnt,
-      first-item-reads.Asked,
-      first-item-reads.Learnt,
-      count-terms-reads.Asked,
-      count-terms-reads.Learnt,
-      bound-by-reads.Asked,
-      bound-by-reads.Learnt,
-      item-before-reads.Asked,
-      item-before-reads.Learnt,
-      is-negative-reads.Asked,
-      is-negative-reads.Learnt,
-      shifted-reads.Asked,
-      shifted-reads.Learnt,
-      coefficient-of-reads.Asked,
-      coefficient-of-reads.Learnt,
-      end-of-reads.Asked,
-      end-of-reads.Learnt,
-      bound-of-reads.Asked,
-      bound-of-reads.Learnt,
-    ) reads.Pre reads.Post invariant-levels decreases-levels
-
-fits : (c : Turn) → (let l = c.before.before.before.before.before.before.before.levels in let d = c.end_of_lem.result in
-    (l.rest + c.before.coefficient-of.result * d ≤ greatest_sum) × (l.orders + d ≤ most_orders))
-fits c =
-    let l = c.before.before.before.before.before.before.before in
-    rw (c.before.coefficient-of.ensures, c.end_of_lem.ensures) (more_fits _ l.before.before.before.before.before.before.requires l.levels.invariant.1 (omega arith))
 
 pub count_terms-terms-requires : goal.count_terms-terms-requires
 count_terms-terms-requires c = omega (arith, c.first_item.ensures, first_within c.args.words.now (checked_all main_limits c.args.words.now c.requires).some)
@@ -92,13 +60,13 @@ pub bounds-ends-level : goal.bounds-ends-level
 bounds-ends-level c = omega (arith, places_known _ c.requires c.levels.invariant.1 (omega arith))
 
 pub overflow_add-orders : goal.overflow_add-orders
-overflow_add-orders c = omega (arith, (fits c).1)
+overflow_add-orders c = omega (arith, (fits_as c.levels.rest c.levels.orders c.coefficient_of-coefficient.ensures c.end_of-end.ensures (more_fits _ c.requires c.levels.invariant.1 (omega arith))).1)
 
 pub overflow_mul-rest : goal.overflow_mul-rest
-overflow_mul-rest c = omega (arith, (fits c).0)
+overflow_mul-rest c = omega (arith, (fits_as c.levels.rest c.levels.orders c.coefficient_of-coefficient.ensures c.end_of-end.ensures (more_fits _ c.requires c.levels.invariant.1 (omega arith))).0)
 
 pub overflow_add-rest : goal.overflow_add-rest
-overflow_add-rest c = omega (arith, (fits c).0)
+overflow_add-rest c = omega (arith, (fits_as c.levels.rest c.levels.orders c.coefficient_of-coefficient.ensures c.end_of-end.ensures (more_fits _ c.requires c.levels.invariant.1 (omega arith))).0)
 
 pub offset_bounds-rests-level : goal.offset_bounds-rests-level
 offset_bounds-rests-level c = omega (arith, places_known _ c.requires c.levels.invariant.1 (omega arith))

@@ -8,28 +8,10 @@ use lib.ListN.{length, get_or}
 use Rattle.diagram.specs.Constraint.{greatest_sum, most_orders}
 use Rattle.word.specs.Word.{payload}
 use Rattle.constraint_bound.specs.declared.Bound.TheVariants.{Natural}
-use Rattle.constraint.proofs.Made.{Made, places_known, made_all}
+use Rattle.constraint.proofs.Made.{Made, places_known, fits_as, made_all}
 use Rattle.constraint_words.proofs.Plain.{plain_count}
 use Rattle.constraint.proofs.Plain.{bound_own, plain_none, plain_fits, plain_turn}
 use Rattle.constraint.proofs.making.make_plain.Goals as goal
-
--- A turn of the loop, once the level's coefficient and domain end are known, and that both sums with this level fit.
-abbrev Turn : Type 0
-Turn =
-    lts.After-end-of (
-      coefficient-of-reads.Asked,
-      coefficient-of-reads.Learnt,
-      end-of-reads.Asked,
-      end-of-reads.Learnt,
-      payload-of-reads.Asked,
-      payload-of-reads.Learnt,
-    ) reads.Pre reads.Post invariant-levels decreases-levels
-
-fits : (c : Turn) → (let l = c.before.before.before.before.levels in let d = c.end_of_lem.result in
-    (l.rest + c.before.coefficient-of.result * d ≤ greatest_sum) × (l.orders + d ≤ most_orders))
-fits c =
-    let l = c.before.before.before.before in
-    rw (c.before.coefficient-of.ensures, c.end_of_lem.ensures) (plain_fits _ l.before.before.requires.1 l.before.before.requires.0 l.levels.invariant (omega arith))
 
 pub overflow_sub-terms : goal.overflow_sub-terms
 overflow_sub-terms c = omega (arith, plain_count c.args.words.now c.requires.1)
@@ -56,13 +38,13 @@ pub bounds-ends-at : goal.bounds-ends-at
 bounds-ends-at c = omega (arith, places_known _ c.requires.0 c.levels.invariant (omega arith))
 
 pub overflow_add-orders : goal.overflow_add-orders
-overflow_add-orders c = omega (arith, (fits c).1)
+overflow_add-orders c = omega (arith, (fits_as c.levels.rest c.levels.orders c.coefficient_of-coefficient.ensures c.end_of-end.ensures (plain_fits _ c.requires.1 c.requires.0 c.levels.invariant (omega arith))).1)
 
 pub overflow_mul-rest : goal.overflow_mul-rest
-overflow_mul-rest c = omega (arith, (fits c).0)
+overflow_mul-rest c = omega (arith, (fits_as c.levels.rest c.levels.orders c.coefficient_of-coefficient.ensures c.end_of-end.ensures (plain_fits _ c.requires.1 c.requires.0 c.levels.invariant (omega arith))).0)
 
 pub overflow_add-rest : goal.overflow_add-rest
-overflow_add-rest c = omega (arith, (fits c).0)
+overflow_add-rest c = omega (arith, (fits_as c.levels.rest c.levels.orders c.coefficient_of-coefficient.ensures c.end_of-end.ensures (plain_fits _ c.requires.1 c.requires.0 c.levels.invariant (omega arith))).0)
 
 pub offset_bounds-rests-at : goal.offset_bounds-rests-at
 offset_bounds-rests-at c = omega (arith, places_known _ c.requires.0 c.levels.invariant (omega arith))
