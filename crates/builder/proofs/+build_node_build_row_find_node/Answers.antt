@@ -53,10 +53,10 @@ pub find_node-build_node-requires : goal.find_node-build_node-requires
 find_node-build_node-requires t c = (omega (arith, c.requires.0), (c.requires.1.0, (c.requires.1.1.0, (c.requires.1.1.1, nothing_missing _ _ _ _ (sym c.find.ensures ∙ c.in_default.is)))))
 
 pub find_node-shape_of-table-in_default : goal.find_node-shape_of-table-in_default
-find_node-shape_of-table-in_default t c = c.build_node.auto.1.1.1.0
+find_node-shape_of-table-in_default t c = c.build_node.auto.table
 
 pub find_node-shape_of-work-in_default : goal.find_node-shape_of-work-in_default
-find_node-shape_of-work-in_default t c = c.build_node.auto.1.1.1.1.0
+find_node-shape_of-work-in_default t c = c.build_node.auto.work
 
 pub find_node-returns-in_default : goal.find_node-returns-in_default
 find_node-returns-in_default t c = c.build_node.ensures
@@ -75,10 +75,10 @@ pub build_node-build_row-row-requires : goal.build_node-build_row-row-requires
 build_node-build_row-row-requires t c = (omega (arith, c.requires.0), (c.requires.1.0, (c.requires.1.1.0, c.requires.1.1.1.0)))
 
 pub build_node-shape_of-table-in_default : goal.build_node-shape_of-table-in_default
-build_node-shape_of-table-in_default t c = c.build_row-row.auto.1.1.1.0
+build_node-shape_of-table-in_default t c = c.build_row-row.auto.table
 
 pub build_node-shape_of-work-in_default : goal.build_node-shape_of-work-in_default
-build_node-shape_of-work-in_default t c = c.build_row-row.auto.1.1.1.1.0
+build_node-shape_of-work-in_default t c = c.build_row-row.auto.work
 
 pub build_node-returns-in_default : goal.build_node-returns-in_default
 build_node-returns-in_default t c = rw c.in_default.is at c.build_row-row.ensures
@@ -86,22 +86,22 @@ build_node-returns-in_default t c = rw c.in_default.is at c.build_row-row.ensure
 pub build_node-put-requires : goal.build_node-put-requires
 build_node-put-requires t c =
     let d = rw c.in-Done.is at c.build_row-row.ensures in
-    let same = c.build_row-row.auto.1.1.1.1.0 in
+    let same = c.build_row-row.auto.work in
     let none = row_missing c.args.coefs.now c.args.ends.now c.args.rests.now c.args.i c.args.r.0 c.args.table.now c.args.main c.args.count (length c.args.work.now) _ _ _ _
     c.requires.1.1.0.0 c.requires.1.1.1.1 d in
     (subst (Two _ _ _) (sym same) d.two, omega (arith, same, c.requires.1.1.0.1), none)
 
 pub build_node-shape_of-table : goal.build_node-shape_of-table
-build_node-shape_of-table t c = c.put.auto.0 ∙ c.build_row-row.auto.1.1.1.0
+build_node-shape_of-table t c = c.put.auto.table ∙ c.build_row-row.auto.table
 
 pub build_node-shape_of-work : goal.build_node-shape_of-work
-build_node-shape_of-work t c = c.put.auto.1.0 ∙ c.build_row-row.auto.1.1.1.1.0
+build_node-shape_of-work t c = c.put.auto.work ∙ c.build_row-row.auto.work
 
 pub build_node-returns : goal.build_node-returns
 build_node-returns t c =
     let d = rw c.in-Done.is at c.build_row-row.ensures in
-    node_put_ok c.args.coefs.now c.args.ends.now c.args.rests.now c.args.i c.args.r.0 c.args.table.now c.args.main c.args.count (length c.args.work.now) _ _ _ _ c.put.new.0 c.put.result
-    c.requires.1.0 c.requires.1.1.0.0 c.requires.1.1.1.0 c.requires.1.1.1.1 d (rw c.build_row-row.auto.1.1.1.1.0 at c.put.ensures)
+    node_put_ok c.args.coefs.now c.args.ends.now c.args.rests.now c.args.i c.args.r.0 c.args.table.now c.args.main c.args.count (length c.args.work.now) _ _ _ _ c.put.new.table c.put.result
+    c.requires.1.0 c.requires.1.1.0.0 c.requires.1.1.1.0 c.requires.1.1.1.1 d (rw c.build_row-row.auto.work at c.put.ensures)
 
 pub build_row-bounds-rests-i : goal.build_row-bounds-rests-i
 build_row-bounds-rests-i t c = omega (arith, c.requires.1.0.level, rests_count c.args.coefs.now c.args.ends.now c.args.rests.now c.requires.1.0.lent)
@@ -143,10 +143,10 @@ build_row-find_node-node-requires t c =
     (omega (arith, c.requires.0, rd.level), (ready_next c.args.coefs.now c.args.ends.now c.args.rests.now c.args.i _ rd k.below, ((subst (Good _ _ _ _ _) (sym same) l.invariant.0.good', omega (arith, same, c.requires.1.1.0.1)), k.below)))
 
 pub build_row-shape_of-table-in_default-node : goal.build_row-shape_of-table-in_default-node
-build_row-shape_of-table-in_default-node t c = c.find_node-node.auto.1.1.1.0 ∙ c.children.invariant.0.long
+build_row-shape_of-table-in_default-node t c = c.find_node-node.auto.table ∙ c.children.invariant.0.long
 
 pub build_row-shape_of-work-in_default-node : goal.build_row-shape_of-work-in_default-node
-build_row-shape_of-work-in_default-node t c = c.find_node-node.auto.1.1.1.1.0 ∙ c.children.invariant.1
+build_row-shape_of-work-in_default-node t c = c.find_node-node.auto.work ∙ c.children.invariant.1
 
 pub build_row-returns-in_default-node : goal.build_row-returns-in_default-node
 build_row-returns-in_default-node t c =
@@ -173,7 +173,7 @@ build_row-children-preserved t c =
     let same = l.invariant.1 in (
       sofar_node c.args.coefs.now c.args.ends.now c.args.rests.now c.args.i c.args.r.0 c.args.table.now c.args.count (length c.args.work.now) l.j l.e l.table l.m l.n c.requires.1.0 l.invariant.0
           (omega (arith, c.children-test.true, l.invariant.2)) _ _ k _ _ _ _ (rw same at d) c.overlap-e.result c.overlap-e.ensures,
-      c.find_node-node.auto.1.1.1.1.0 ∙ same,
+      c.find_node-node.auto.work ∙ same,
       l.invariant.2,
     )
 

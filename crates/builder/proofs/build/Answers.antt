@@ -12,7 +12,7 @@ build_node-requires c =
     let u : c.args.bound.0 < get_or c.args.rests.now 0 0 = omega (arith, c.requires.records_fit.1, top_first c.args.coefs.now c.args.ends.now c.args.rests.now c.requires.lent) in
     record {
       ready = record { lent = c.requires.lent; level = level_left c.args.coefs.now c.args.ends.now c.args.rests.now c.requires.lent 0 c.args.bound.0 (omega arith) u };
-      good = (start_good c.args.coefs.now c.args.ends.now c.args.rests.now c.requires.lent c.args.table.now _, omega (arith, c.requires.records_fit.0, c.prepare.auto.0));
+      good = (start_good c.args.coefs.now c.args.ends.now c.args.rests.now c.requires.lent c.args.table.now _, omega (arith, c.requires.records_fit.0, c.prepare.auto.work));
       r_bound = (u, none_found c.args.table.now 1 c.args.bound.0);
     }
 
@@ -25,7 +25,7 @@ pub merge-requires : goal.merge-requires
 merge-requires c =
     let d = rw c.in-Done.is at c.build_node.ensures in
     let T = d.two.runs in
-    (omega (arith, T.mid), omega (arith, T.room), omega (arith, T.mid, T.few, c.build_node.auto.1.1.1.1.0))
+    (omega (arith, T.mid), omega (arith, T.room), omega (arith, T.mid, T.few, c.build_node.auto.work))
 
 pub returns : goal.returns
 returns c =

@@ -19,15 +19,15 @@ put-requires c =
     (S.within, omega (arith, c.if-table-count.false, S.long), v.0.pending, settled_missing c.args.table.now c.args.main c.args.count (length c.args.work.now) _ _ c.requires.0 S c.args.level c.args.r.0 c.requires.2)
 
 pub shape_of-table : goal.shape_of-table
-shape_of-table c = c.put.auto.0 ∙ c.settle-k.auto.0
+shape_of-table c = c.put.auto.table ∙ c.settle-k.auto.table
 
 pub shape_of-work : goal.shape_of-work
-shape_of-work c = c.settle-k.auto.1.0
+shape_of-work c = c.settle-k.auto.work
 
 pub returns : goal.returns
 returns c =
     record {
-      between = c.settle-k.new.0;
+      between = c.settle-k.new.table;
       settled = c.settle-k.ensures.settled;
       put = c.put.ensures;
       one = refl;

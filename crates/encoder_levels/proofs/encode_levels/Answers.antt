@@ -16,11 +16,11 @@ pub returns-in-Full : goal.returns-in-Full
 returns-in-Full c =
     λ a e.
     let d = rw c.in-Full.is at (c.draw.ensures a e) in
-    full_answer c.args.limits c.args.coefs.now c.args.ends.now a c.args.table.now _ _ c.args.clauses.now _ _ _ _ _ d c.draw.auto.1.1.1.1.1.0 c.draw.auto.1.1.1.1.1.1.0 c.refuse.ensures
+    full_answer c.args.limits c.args.coefs.now c.args.ends.now a c.args.table.now _ _ c.args.clauses.now _ _ _ _ _ d c.draw.auto.table c.draw.auto.clauses c.refuse.ensures
 
 pub returns-in-Rooted : goal.returns-in-Rooted
 returns-in-Rooted c =
     λ a e.
     let d = rw c.in-Rooted.is at (c.draw.ensures a e) in
-    same_answer c.args.limits c.args.coefs.now c.args.ends.now a c.args.table.now _ _ c.args.clauses.now _ _ _ _ _ c.draw.auto.1.1.1.1.1.0 c.draw.auto.1.1.1.1.1.1.0
+    same_answer c.args.limits c.args.coefs.now c.args.ends.now a c.args.table.now _ _ c.args.clauses.now _ _ _ _ _ c.draw.auto.table c.draw.auto.clauses
     (c.finish.ensures c.args.limits a d.0 (recounted _ _ _ _ c.requires.orders_value d.1))

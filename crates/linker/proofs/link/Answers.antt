@@ -125,7 +125,7 @@ loop-k-preserved c =
     c.row.ensures.table_after c.row.ensures.edges_after
 
 pub shape_of-table : goal.shape_of-table
-shape_of-table c = c.loop-k.invariant.long ∙ c.clear_entering.auto.0
+shape_of-table c = c.loop-k.invariant.long ∙ c.clear_entering.auto.table
 
 pub shape_of-edges : goal.shape_of-edges
 shape_of-edges c = c.loop-k.invariant.wide

@@ -7,4 +7,4 @@ pub loop-i-preserved : goal.loop-i-preserved
 loop-i-preserved c =
     let l = c.loop-i in
     let counted = c.count_level-k in
-    (length-set counted.new.1.0 _ _ ∙ counted.auto.1.0 ∙ l.invariant.0, l.invariant.1)
+    (length-set counted.new.work _ _ ∙ counted.auto.work ∙ l.invariant.0, l.invariant.1)

@@ -5,4 +5,4 @@ use Rattle.diagram.specs.Constraint.{most_terms}
 use Rattle.search_hints.proofs.prepare.Goals as goal
 
 pub loop-i-preserved : goal.loop-i-preserved
-loop-i-preserved c = let l = c.loop-i in (c.prepare_level.auto.0 ∙ length-set l.work _ (l.i + 1) ∙ l.invariant.0, omega arith)
+loop-i-preserved c = let l = c.loop-i in (c.prepare_level.auto.work ∙ length-set l.work _ (l.i + 1) ∙ l.invariant.0, omega arith)

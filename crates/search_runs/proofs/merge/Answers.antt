@@ -7,4 +7,4 @@ use Rattle.search_runs.proofs.merge.Goals as goal
 pub merge_back-requires : goal.merge_back-requires
 merge_back-requires c =
     let copied = c.copy_words in
-    (c.requires.0, c.requires.1, omega (arith, copied.auto.1.0, c.requires.2), run_copied c.args.table.now c.args.main c.args.count c.requires.0 c.requires.1 copied.new.1.0 c.args.work.now copied.ensures)
+    (c.requires.0, c.requires.1, omega (arith, copied.auto.to, c.requires.2), run_copied c.args.table.now c.args.main c.args.count c.requires.0 c.requires.1 copied.new.to c.args.work.now copied.ensures)

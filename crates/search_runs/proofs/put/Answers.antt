@@ -42,6 +42,6 @@ returns c =
     let m = c.args.main in
     let tail = take (length t - m * record_words) (drop (m * record_words) t) in
     put_second t m c.args.count c.requires.0 c.requires.1 c.args.level c.args.r.0 c.args.lower c.args.upper
-    c.in-Nothing.gap c.insert.new.0
+    c.in-Nothing.gap c.insert.new.table
     (nothing_gap (labelled tail (c.args.count - m)) c.args.level c.args.r.0 c.in-Nothing.gap (sym c.find_near.ensures ∙ c.in-Nothing.is))
-    c.insert.ensures.0 c.insert.ensures.1 c.insert.auto.0
+    c.insert.ensures.0 c.insert.ensures.1 c.insert.auto.table

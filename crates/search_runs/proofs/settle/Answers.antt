@@ -15,6 +15,6 @@ pub returns : goal.returns
 returns c =
     let merged = c.merge in
     record {
-      settled = record { within = omega arith; free = omega arith; long = merged.auto.0; way = inr (refl, merged.ensures.0) };
+      settled = record { within = omega arith; free = omega arith; long = merged.auto.table; way = inr (refl, merged.ensures.merged) };
       work_len_unchanged = search rules;
     }

@@ -20,10 +20,10 @@ pub overflow_sub-i : goal.overflow_sub-i
 overflow_sub-i c = let n = c.loop-i in above_some (labels n.table) n.i c.key_of-k.result (sym c.last_above.ensures ∙ c.loop-i-test.true)
 
 pub move_label-requires : goal.move_label-requires
-move_label-requires c = omega (arith, sub-i c)
+move_label-requires c = let n = c.loop-i in omega (arith, above_some (labels n.table) n.i c.key_of-k.result (sym c.last_above.ensures ∙ c.loop-i-test.true))
 
 pub loop-i-smaller : goal.loop-i-smaller
-loop-i-smaller c = omega (arith, sub-i c)
+loop-i-smaller c = let n = c.loop-i in omega (arith, above_some (labels n.table) n.i c.key_of-k.result (sym c.last_above.ensures ∙ c.loop-i-test.true))
 
 pub loop-i-preserved : goal.loop-i-preserved
 loop-i-preserved c =
@@ -33,9 +33,9 @@ loop-i-preserved c =
     let test = c.last_above in
     let moved = c.move_label in (
       omega (arith, n.invariant.0),
-      moved.auto.0 ∙ n.invariant.1,
+      moved.auto.table ∙ n.invariant.1,
       λ t₀ h. turn_main t₀ c.args.s.now c.args.main c.args.count c.requires.0 (omega (arith, h.3, l.invariant.3)) c.requires.2 n.table n.i l.j key.result
-          (n.invariant.2 t₀ h) (omega arith) key.ensures moved.new.0 (sym test.ensures ∙ c.loop-i-test.true) moved.ensures,
+          (n.invariant.2 t₀ h) (omega arith) key.ensures moved.new.table (sym test.ensures ∙ c.loop-i-test.true) moved.ensures,
     )
 
 pub loop-j-preserved : goal.loop-j-preserved
@@ -46,7 +46,7 @@ loop-j-preserved c =
     let test = c.last_above in
     let copied = c.copy_label in
     turn_pending c.args.table.now c.args.s.now c.args.main c.args.count c.requires.0 c.requires.1 c.requires.2 n.table n.i l.j key.result
-    (n.invariant.2 c.args.table.now l.invariant) (omega arith) key.ensures copied.new.0 (sym test.ensures ∙ c.loop-i-test.false) copied.ensures
+    (n.invariant.2 c.args.table.now l.invariant) (omega arith) key.ensures copied.new.table (sym test.ensures ∙ c.loop-i-test.false) copied.ensures
 
 pub shape_of-table : goal.shape_of-table
 shape_of-table c = c.loop-j.invariant.3
