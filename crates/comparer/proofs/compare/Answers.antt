@@ -1,15 +1,10 @@
 -- `comparer::compare` meets its contract. The loop's invariant: `full` words have four bytes in their place, k goes no further, and every word before word k
 -- has its own. The measure is the number of words left to compare. Assumes nothing.
-use borrow.Author.Rules.{rules}
-use Prim.Native.Nat.{◌-◌, ◌/◌, ◌≤◌, min}
 use native.Mathlib.Omega.{arith}
-use mathlib.Core.Path.{◌≡◌, sym, ap, ◌∙◌}
-use lib.ListN.{length}
-use borrow.Author.Tests.{not-true, not-false}
+use mathlib.Core.Path.{sym, ap, ◌∙◌}
 use Rattle.word.proofs.Giving.{gives}
 use Rattle.comparer.specs.declared.Compared.TheVariants.{Differs}
 use Rattle.comparer.specs.Bytes.{compared_values}
-use Rattle.comparer.specs.Four.{AllHave}
 use Rattle.comparer.proofs.Turns.{one_more, word_apart, none_left, ends_apart}
 use Rattle.comparer.proofs.compare.Goals as goal
 
@@ -34,7 +29,7 @@ returns-then-not-has_four c =
     c.loop-k.k
     c.loop-k.invariant.2
     (omega arith)
-    (sym c.has_four.ensures ∙ not-true _ c.if-not-has_four.true)))
+    (sym c.has_four.ensures ∙ c.if-not-has_four.true)))
 
 pub loop-k-preserved : goal.loop-k-preserved
 loop-k-preserved c =
@@ -48,7 +43,7 @@ loop-k-preserved c =
           _
           (omega arith)
           c.loop-k.invariant.2
-          (sym c.has_four.ensures ∙ not-false _ c.if-not-has_four.false),
+          (sym c.has_four.ensures ∙ c.if-not-has_four.false),
     )
 
 pub returns-then-bytes-words : goal.returns-then-bytes-words

@@ -1,16 +1,9 @@
 -- `comparer::compare` meets its contract. The loop's invariant: `full` words have four bytes in their place, k goes no further, and every word before word k
 -- has its own. The measure is the number of words left to compare. Assumes nothing.
-use borrow.Author.Rules.{rules}
 use Prim.Native.Nat.{◌-◌, ◌/◌, ◌≤◌, min}
-use native.Mathlib.Omega.{arith}
-use mathlib.Core.Path.{◌≡◌, sym, ap, ◌∙◌}
+use mathlib.Core.Path.{◌≡◌}
 use lib.ListN.{length}
-use borrow.Author.Tests.{not-true, not-false}
-use Rattle.word.proofs.Giving.{gives}
-use Rattle.comparer.specs.declared.Compared.TheVariants.{Differs}
-use Rattle.comparer.specs.Bytes.{compared_values}
 use Rattle.comparer.specs.Four.{AllHave}
-use Rattle.comparer.proofs.Turns.{one_more, word_apart, none_left, ends_apart}
 use Rattle.comparer.proofs.compare.Given as goal
 
 abbrev pub invariant-loop-k : goal.invariant-loop-k

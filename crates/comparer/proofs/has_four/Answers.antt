@@ -1,5 +1,4 @@
 -- `comparer::has_four` meets its contract: the word that the four bytes make is compared with word k. Assumes nothing.
-use borrow.Author.Rules.{rules}
 use native.Mathlib.Omega.{arith}
 use Rattle.comparer.proofs.Turns.{four_test}
 use Rattle.comparer.proofs.has_four.Goals as goal
@@ -13,5 +12,5 @@ returns c =
     args.words.now
     args.k
     c.requires.1
-    (λ i. omega (arith, c.shared_slice_known-1.given i))
-    (omega (arith, c.shared_slice_known-2-1.given args.k)))
+    (λ i. omega (arith, c.type_inv.bytes i))
+    (omega (arith, c.type_inv.words args.k)))

@@ -1,10 +1,6 @@
 -- `comparer::pass_fours` meets its contract. The loop's invariant is what is promised: every word before word k has its four bytes. The measure is the number
 -- of words left. Assumes nothing.
-use borrow.Author.Rules.{rules}
-use Prim.Native.Nat.{◌-◌, ◌≤◌}
 use native.Mathlib.Omega.{arith}
-use Rattle.comparer.specs.Four.{AllHave}
-use borrow.Author.Tests.{not-false}
 use Rattle.comparer.proofs.Turns.{four_more}
 use Rattle.comparer.proofs.pass_fours.Goals as goal
 
@@ -38,7 +34,7 @@ loop-k-preserved c =
           c.has_four-second.ensures
           c.has_four-third.ensures
           c.has_four-fourth.ensures
-          (not-false _ c.if-not-first-second.false)
+          c.if-not-first-second.false
           c.loop-k.invariant.1,
     )
 

@@ -1,11 +1,7 @@
 -- `comparer::pass_fours` meets its contract. The loop's invariant is what is promised: every word before word k has its four bytes. The measure is the number
 -- of words left. Assumes nothing.
-use borrow.Author.Rules.{rules}
 use Prim.Native.Nat.{◌-◌, ◌≤◌}
-use native.Mathlib.Omega.{arith}
 use Rattle.comparer.specs.Four.{AllHave}
-use borrow.Author.Tests.{not-false}
-use Rattle.comparer.proofs.Turns.{four_more}
 use Rattle.comparer.proofs.pass_fours.Given as goal
 
 abbrev pub invariant-loop-k : goal.invariant-loop-k

@@ -2,11 +2,8 @@
 -- (`Mid`). The measure is the number of bytes left. Assumes nothing.
 use Prim.Native.Nat.{◌-◌}
 use lib.ListN.{length}
-use mathlib.Core.Path.{sym, ap, ◌∙◌}
-use mathlib.Core.Logic.{⊎_elim}
-use borrow.Author.Rules.{rules}
-use Rattle.dimacs_step.specs.View.{view, next}
-use Rattle.dimacs_reader.proofs.Loop.{Mid, mid_start, mid_as, mid_on, mid_put, exit_bad, exit_short, exit_room, exit_all}
+use Rattle.dimacs_step.specs.View.{view}
+use Rattle.dimacs_reader.proofs.Loop.{Mid}
 use Rattle.dimacs_reader.proofs.read.Given as goal
 
 abbrev pub invariant-bytes : goal.invariant-bytes

@@ -1,7 +1,6 @@
 -- `dimacs_reader::store` meets its contract: past the end of the list a store changes nothing. Assumes nothing.
 use lib.Seq.{set_out}
 use mathlib.Core.Path.{sym}
-use borrow.Author.Rules.{rules}
 use Rattle.dimacs_reader.proofs.store.Goals as goal
 
 pub returns-else-at-out : goal.returns-else-at-out

@@ -2,7 +2,6 @@
 use Rattle.dimacs_text.specs.Machine.{step}
 use mathlib.Core.Path.{sym, ◌∙◌}
 use Rattle.dimacs_step.proofs.Branches.{then_on, else_on, went}
-use borrow.Author.Rules.{rules}
 use Rattle.dimacs_step.proofs.after_p.Goals as goal
 
 pub returns-then-is_space : goal.returns-then-is_space

@@ -3,7 +3,6 @@ use Rattle.word.proofs.Tests.{between_is}
 use Rattle.dimacs_step.proofs.Branches.{then_on, else_on, went}
 use mathlib.Core.Path.{refl, sym, ◌∙◌}
 use native.Mathlib.Omega.{arith}
-use borrow.Author.Rules.{rules}
 use Rattle.dimacs_step.proofs.before_number.Goals as goal
 
 pub returns-then-is_space : goal.returns-then-is_space

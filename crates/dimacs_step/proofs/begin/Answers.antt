@@ -3,7 +3,6 @@ use Rattle.dimacs_step.proofs.Branches.{then_on, else_on, went}
 use Rattle.word.specs.Word.{last_count}
 use native.Mathlib.Omega.{arith}
 use borrow.Author.Tests.{eq-eqb, ne_eqb, le-leb, lt-leb}
-use borrow.Author.Rules.{rules}
 use Rattle.dimacs_step.proofs.begin.Goals as goal
 
 pub returns-then-s-eq0 : goal.returns-then-s-eq0

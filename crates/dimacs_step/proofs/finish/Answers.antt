@@ -4,7 +4,6 @@ use Rattle.dimacs_step.proofs.Branches.{then_on, else_on, counted}
 use Rattle.word.specs.Word.{literal_word}
 use Rattle.dimacs_step.specs.View.{counts}
 use mathlib.Core.Bool.{Bool}
-use borrow.Author.Rules.{rules}
 use Rattle.dimacs_step.proofs.finish.Goals as goal
 
 pub returns-then-s : goal.returns-then-s

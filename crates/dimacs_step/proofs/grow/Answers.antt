@@ -3,7 +3,6 @@ use Rattle.dimacs_step.proofs.Branches.{went, grown_bad, grown_on}
 use mathlib.Core.Path.{◌∙◌}
 use native.Mathlib.Omega.{arith}
 use borrow.Author.Tests.{eq-eqb, ne_eqb, le-leb, lt-leb}
-use borrow.Author.Rules.{rules}
 use Rattle.dimacs_step.proofs.grow.Goals as goal
 
 pub returns-then-v-eq0 : goal.returns-then-v-eq0

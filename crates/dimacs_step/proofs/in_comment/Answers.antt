@@ -1,7 +1,6 @@
 -- `dimacs_step::in_comment` meets its contract: a newline ends the comment. Assumes nothing.
 use borrow.Author.Tests.{eq-eqb, ne_eqb}
 use Rattle.dimacs_step.proofs.Branches.{then_on, else_on, went}
-use borrow.Author.Rules.{rules}
 use Rattle.dimacs_step.proofs.in_comment.Goals as goal
 
 pub returns-then-b-eq10 : goal.returns-then-b-eq10

@@ -2,7 +2,6 @@
 use mathlib.Core.Path.{refl, sym, ◌∙◌}
 use borrow.Author.Tests.{eq-eqb, ne_eqb}
 use Rattle.dimacs_step.proofs.Branches.{or_first, or_second}
-use borrow.Author.Rules.{rules}
 use Rattle.dimacs_step.proofs.is_blank.Goals as goal
 
 pub returns-then-is_space : goal.returns-then-is_space

@@ -3,7 +3,6 @@ use Rattle.dimacs_text.specs.Machine.{final}
 use mathlib.Core.Path.{refl}
 use Rattle.dimacs_step.proofs.Branches.{final_in}
 use Rattle.dimacs_step.specs.declared.Phase.TheVariants.{Gap, Comment, Closed, Second, Before, CommentBefore, P, C, Cn, Cnf, AfterP, AfterCnf, First, AfterFirst, Minus, Literal}
-use borrow.Author.Rules.{rules}
 use Rattle.dimacs_step.proofs.is_final.Goals as goal
 
 pub returns-in-Gap : goal.returns-in-Gap

@@ -3,7 +3,6 @@ use Rattle.dimacs_step.proofs.Branches.{then_on, between, went}
 use Prim.Native.Nat.{◌-◌}
 use native.Mathlib.Omega.{arith}
 use borrow.Author.Tests.{eq-eqb, ne_eqb, le-leb, lt-leb}
-use borrow.Author.Rules.{rules}
 use Rattle.dimacs_step.proofs.lead.Goals as goal
 
 pub returns-then-b-lt49 : goal.returns-then-b-lt49

@@ -2,7 +2,6 @@
 use native.Mathlib.Omega.{arith}
 use borrow.Author.Tests.{eq-eqb, ne_eqb, le-leb, lt-leb}
 use Rattle.dimacs_step.proofs.Branches.{then_on, went}
-use borrow.Author.Rules.{rules}
 use Rattle.dimacs_step.proofs.must_be.Goals as goal
 
 pub returns-then-b-wanted : goal.returns-then-b-wanted

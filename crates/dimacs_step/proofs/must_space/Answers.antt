@@ -1,7 +1,6 @@
 -- `dimacs_step::must_space` meets its contract: the byte is a space or a tab, or no legal text can follow. Assumes nothing.
 use mathlib.Core.Path.{refl, sym, ◌∙◌}
 use Rattle.dimacs_step.proofs.Branches.{then_on, else_on, went}
-use borrow.Author.Rules.{rules}
 use Rattle.dimacs_step.proofs.must_space.Goals as goal
 
 pub returns-then-is_space : goal.returns-then-is_space

@@ -3,7 +3,6 @@ use Rattle.word.proofs.Tests.{between_is}
 use Rattle.dimacs_step.proofs.Branches.{then_on, else_on}
 use Rattle.dimacs_text.specs.Machine.{step}
 use mathlib.Core.Path.{refl, sym, ◌∙◌}
-use borrow.Author.Rules.{rules}
 use Rattle.dimacs_step.proofs.second.Goals as goal
 
 pub grow-requires : goal.grow-requires

@@ -2,7 +2,6 @@
 use Rattle.dimacs_text.specs.Machine.{step}
 use Rattle.dimacs_step.proofs.Branches.{step_in, good_in}
 use Rattle.dimacs_step.specs.declared.Phase.TheVariants.{Gap, Literal, Minus, Closed, Comment, Before, CommentBefore, P, C, Cn, Cnf, AfterP, AfterCnf, First, AfterFirst, Second}
-use borrow.Author.Rules.{rules}
 use Rattle.dimacs_step.proofs.step.Goals as goal
 
 pub gap-requires : goal.gap-requires

@@ -1,12 +1,9 @@
 -- `dimacs_writer::fits` meets its contract. The invariant: what is left of the room, less the words from `at` on, is what was left behind the header, less all words.
 -- The measure is the number of words left. Assumes nothing.
-use borrow.Author.Rules.{rules}
 use native.Mathlib.Omega.{arith}
-use mathlib.Core.Path.{◌≡◌, ap}
-use Prim.Native.Nat.{◌+◌, ◌-◌, ◌≤◌}
-use lib.ListN.{length, drop}
+use mathlib.Core.Path.{ap}
+use lib.ListN.{length}
 use Rattle.text.proofs.Decimals.{digits_few}
-use Rattle.dimacs_text.specs.Written.{body}
 use Rattle.dimacs_writer.proofs.Turns.{body_none, word_length, under_over, under_within}
 use Rattle.dimacs_writer.proofs.fits.Goals as goal
 
@@ -16,7 +13,7 @@ overflow_add-first-2 c =
     omega (arith, c.digits.ensures, c.digits-2.ensures, digits_few 19 args.h.most (omega arith), digits_few 19 args.h.clauses (omega arith))
 
 pub overflow_add-first : goal.overflow_add-first
-overflow_add-first c = omega (arith, add-first-2 c)
+overflow_add-first c = omega (arith, overflow_add-first-2 c)
 
 pub returns-then-room-first : goal.returns-then-room-first
 returns-then-room-first c =

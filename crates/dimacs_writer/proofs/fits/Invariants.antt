@@ -1,13 +1,9 @@
 -- `dimacs_writer::fits` meets its contract. The invariant: what is left of the room, less the words from `at` on, is what was left behind the header, less all words.
 -- The measure is the number of words left. Assumes nothing.
-use borrow.Author.Rules.{rules}
-use native.Mathlib.Omega.{arith}
-use mathlib.Core.Path.{◌≡◌, ap}
+use mathlib.Core.Path.{◌≡◌}
 use Prim.Native.Nat.{◌+◌, ◌-◌, ◌≤◌}
 use lib.ListN.{length, drop}
-use Rattle.text.proofs.Decimals.{digits_few}
 use Rattle.dimacs_text.specs.Written.{body}
-use Rattle.dimacs_writer.proofs.Turns.{body_none, word_length, under_over, under_within}
 use Rattle.dimacs_writer.proofs.fits.Given as goal
 
 abbrev pub invariant-words : goal.invariant-words

@@ -1,5 +1,4 @@
 -- `dimacs_writer::put_header` meets its contract: its pieces stand one behind the other. Assumes nothing.
-use borrow.Author.Rules.{rules}
 use Rattle.text.proofs.Cuts.{wrote_then}
 use Rattle.dimacs_writer.proofs.put_header.Goals as goal
 

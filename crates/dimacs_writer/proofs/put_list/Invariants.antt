@@ -1,13 +1,9 @@
 -- `dimacs_writer::put_list` meets its contract. The invariant: the words before i are in, behind the header's line, and those from i on are left. The measure is
 -- the number of words left. Assumes nothing.
-use borrow.Author.Rules.{rules}
-use native.Mathlib.Omega.{arith}
-use mathlib.Core.Path.{refl, ◌∙◌}
 use Prim.Native.Nat.{◌-◌}
 use lib.ListN.{length, drop}
-use Rattle.text.proofs.Cuts.{Left, left_all, left_less, left_none, wrote_then}
+use Rattle.text.proofs.Cuts.{Left}
 use Rattle.dimacs_text.specs.Written.{body}
-use Rattle.dimacs_writer.proofs.Turns.{body_turn, body_none}
 use Rattle.dimacs_writer.proofs.put_list.Given as goal
 
 abbrev pub invariant-words : goal.invariant-words

@@ -1,5 +1,4 @@
 -- `dimacs_writer::put_sign` meets its contract, by the two cases. Assumes nothing.
-use borrow.Author.Rules.{rules}
 use mathlib.Core.Path.{sym, ap}
 use mathlib.Core.Bool.{Bool, not}
 use Rattle.dimacs_text.specs.Text.{sign}

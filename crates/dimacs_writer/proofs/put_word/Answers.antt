@@ -1,5 +1,4 @@
 -- `dimacs_writer::put_word` meets its contract: an end word's two bytes, or the pieces of a literal, one behind the other. Assumes nothing.
-use borrow.Author.Rules.{rules}
 use native.Mathlib.Omega.{arith}
 use mathlib.Core.Path.{ap}
 use mathlib.Core.Bool.{Bool, not}

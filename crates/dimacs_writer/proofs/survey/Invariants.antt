@@ -1,9 +1,7 @@
 -- `dimacs_writer::survey` meets its contract. The invariant: the words before `at` are counted. The measure is the number of words left. Assumes nothing.
-use borrow.Author.Rules.{rules}
-use native.Mathlib.Omega.{arith}
 use Prim.Native.Nat.{◌-◌}
 use lib.ListN.{length}
-use Rattle.dimacs_writer.proofs.Turns.{Surveyed, survey_none, survey_end, survey_literal, survey_all}
+use Rattle.dimacs_writer.proofs.Turns.{Surveyed}
 use Rattle.dimacs_writer.proofs.survey.Given as goal
 
 abbrev pub invariant-words : goal.invariant-words

@@ -1,5 +1,4 @@
 -- `dimacs_writer::width` meets its contract: the digits, the space behind them, and the sign before them. Assumes nothing.
-use borrow.Author.Rules.{rules}
 use native.Mathlib.Omega.{arith}
 use mathlib.Core.Path.{sym, ap, ◌∙◌}
 use lib.ListN.{length}

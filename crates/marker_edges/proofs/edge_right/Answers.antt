@@ -1,5 +1,4 @@
 -- `marker_edges::edge_right` meets its contract: each end of an edge has its test. Assumes nothing.
-use borrow.Author.Rules.{rules}
 use Rattle.marker_edges.proofs.Turns.{end_f, end_t, same_child}
 use Rattle.marker_edges.proofs.edge_right.Goals as goal
 

@@ -1,5 +1,4 @@
 -- `marker_edges::holds_all` meets its contract: the lower end is tested first, then the upper. Assumes nothing.
-use borrow.Author.Rules.{rules}
 use Rattle.marker_edges.proofs.Turns.{starts_late, starts_in_time}
 use Rattle.marker_edges.proofs.holds_all.Goals as goal
 

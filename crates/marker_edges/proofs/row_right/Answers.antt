@@ -1,11 +1,8 @@
 -- `marker_edges::row_right` meets its contract. The loop's invariant: the row is what is left of it from value j on, which takes the offset. The measure is the number of
 -- edges left. Assumes nothing.
-use Prim.Native.Nat.{◌-◌}
 use borrow.Author.Rules.{rules}
-use borrow.Author.Tests.{not-true, not-false}
 use native.Mathlib.Omega.{arith}
-use lib.ListN.{length}
-use Rattle.marker_edges.proofs.Turns.{by_end, EdgesBefore, row_starts, offset_small, row_fails, row_goes_on, row_ends}
+use Rattle.marker_edges.proofs.Turns.{by_end, row_starts, offset_small, row_fails, row_goes_on, row_ends}
 use Rattle.marker_edges.proofs.row_right.Goals as goal
 
 pub edges-init : goal.edges-init
@@ -22,7 +19,7 @@ edge_right-requires c =
 pub returns-then-not-edge_right : goal.returns-then-not-edge_right
 returns-then-not-edge_right c =
     let test = by_end _ _ _ _ _ c.child_of-end.ensures _ c.edge_right.ensures in
-    row_fails _ _ _ _ _ _ c.edges.invariant (search rules) _ test (not-true _ c.if-not-edge_right.true)
+    row_fails _ _ _ _ _ _ c.edges.invariant (search rules) _ test c.if-not-edge_right.true
 
 pub overflow_add-offset : goal.overflow_add-offset
 overflow_add-offset c =
@@ -32,7 +29,7 @@ overflow_add-offset c =
 pub edges-preserved : goal.edges-preserved
 edges-preserved c =
     let test = by_end _ _ _ _ _ c.child_of-end.ensures _ c.edge_right.ensures in
-    row_goes_on _ _ _ _ _ _ c.edges.invariant (search rules) _ test (not-false _ c.if-not-edge_right.false)
+    row_goes_on _ _ _ _ _ _ c.edges.invariant (search rules) _ test c.if-not-edge_right.false
 
 pub returns : goal.returns
 returns c = row_ends _ _ _ _ _ _ c.edges.invariant (search rules)

@@ -1,11 +1,8 @@
 -- `marker_edges::row_right` meets its contract. The loop's invariant: the row is what is left of it from value j on, which takes the offset. The measure is the number of
 -- edges left. Assumes nothing.
 use Prim.Native.Nat.{◌-◌}
-use borrow.Author.Rules.{rules}
-use borrow.Author.Tests.{not-true, not-false}
-use native.Mathlib.Omega.{arith}
 use lib.ListN.{length}
-use Rattle.marker_edges.proofs.Turns.{by_end, EdgesBefore, row_starts, offset_small, row_fails, row_goes_on, row_ends}
+use Rattle.marker_edges.proofs.Turns.{EdgesBefore}
 use Rattle.marker_edges.proofs.row_right.Given as goal
 
 abbrev pub invariant-edges : goal.invariant-edges

@@ -1,11 +1,6 @@
 -- `propagator::backward` meets its contract. The loop's invariant: the clauses behind the place are passed (`Backwards`). Assumes nothing.
-use native.Mathlib.Omega.{arith}
-use Prim.Native.Nat.{ℕ, ◌-◌, ◌≤◌}
-use mathlib.Core.Path.{sym, ap, subst}
-use Rattle.propagator.specs.Pass.{ListPasses}
-use Rattle.propagator.proofs.PassSoFar.{pass_falsified, pass_neither, pass_unit}
-use Rattle.propagator.proofs.Backwards.{Back, Backwards, backwards_start, backwards_within, backwards_less, backwards_between, backwards_turn, backwards_done}
-use borrow.Author.Rules.{rules}
+use Prim.Native.Nat.{◌≤◌}
+use Rattle.propagator.proofs.Backwards.{Backwards}
 use Rattle.propagator.proofs.backward.Given as goal
 
 abbrev pub invariant-clauses : goal.invariant-clauses

@@ -2,7 +2,6 @@
 use native.Mathlib.Omega.{arith}
 use mathlib.Core.Path.{sym, ◌∙◌}
 use Rattle.propagator.proofs.Checks.{bytes_refuse, list_refused, length_refused, all_pass}
-use borrow.Author.Rules.{rules}
 use Rattle.propagator.proofs.check.Goals as goal
 
 pub returns-in-Refused : goal.returns-in-Refused

@@ -1,9 +1,7 @@
 -- `propagator::copy` meets its contract. The loop's invariant: the first i bytes are copied. Assumes nothing.
-use borrow.Author.Rules.{rules}
 use native.Mathlib.Omega.{arith}
-use mathlib.Core.Path.{◌≡◌, refl, ◌∙◌}
-use Prim.Native.Nat.{◌-◌, ◌≤◌}
-use lib.ListN.{length, take, get_or, length-set}
+use mathlib.Core.Path.{refl, ◌∙◌}
+use lib.ListN.{get_or, length-set}
 use Rattle.propagator.proofs.Copies.{copy_turn, copy_done}
 use Rattle.propagator.proofs.copy.Goals as goal
 
@@ -17,9 +15,6 @@ bytes-preserved c =
       length-set c.bytes.to c.bytes.i (get_or from c.bytes.i 0) ∙ c.bytes.invariant.1,
       copy_turn from c.bytes.to c.bytes.i c.bytes.invariant.1 c.bytes.invariant.2 (omega arith),
     )
-
-pub shape_of-to : goal.shape_of-to
-shape_of-to c = omega (arith, c.requires)
 
 pub returns : goal.returns
 returns c = copy_done c.args.from.now c.bytes.to c.bytes.i c.bytes.invariant.1 c.bytes.invariant.2 (omega arith)

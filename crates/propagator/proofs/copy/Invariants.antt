@@ -1,10 +1,7 @@
 -- `propagator::copy` meets its contract. The loop's invariant: the first i bytes are copied. Assumes nothing.
-use borrow.Author.Rules.{rules}
-use native.Mathlib.Omega.{arith}
-use mathlib.Core.Path.{◌≡◌, refl, ◌∙◌}
+use mathlib.Core.Path.{◌≡◌}
 use Prim.Native.Nat.{◌-◌, ◌≤◌}
-use lib.ListN.{length, take, get_or, length-set}
-use Rattle.propagator.proofs.Copies.{copy_turn, copy_done}
+use lib.ListN.{length, take}
 use Rattle.propagator.proofs.copy.Given as goal
 
 abbrev pub invariant-bytes : goal.invariant-bytes

@@ -1,12 +1,10 @@
 -- `propagator::forward` meets its contract. The loop's invariant: the clauses before the place are passed (`Forwards`). Assumes nothing.
 use native.Mathlib.Omega.{arith}
-use Prim.Native.Nat.{ℕ, ◌-◌, ◌≤◌}
+use Prim.Native.Nat.{ℕ}
 use mathlib.Core.Path.{sym, subst}
-use lib.ListN.{length}
 use Rattle.propagator.specs.Pass.{ListPasses, Split}
 use Rattle.propagator.proofs.PassSoFar.{pass_falsified, pass_neither, pass_unit}
-use Rattle.propagator.proofs.Forwards.{Forwards, forwards_start, forwards_between, forwards_less, forwards_turn, forwards_done}
-use borrow.Author.Rules.{rules}
+use Rattle.propagator.proofs.Forwards.{forwards_start, forwards_between, forwards_less, forwards_turn, forwards_done}
 use Rattle.propagator.proofs.forward.Goals as goal
 
 pub clauses-init : goal.clauses-init
@@ -17,7 +15,7 @@ next-s-requires c =
     let ws = c.args.words.now in
     let now = c.clauses in (
       subst (λ (n : ℕ). ListPasses n ws) (sym now.invariant.1.extension.long) c.requires.0.0,
-      forwards_between ws c.args.bytes.now c.requires.0 c.args.from now.new now.at now.bytes now.invariant.1,
+      forwards_between ws c.args.bytes.now c.requires.0 c.args.from now.last now.at now.bytes now.invariant.1,
       omega arith,
     )
 
@@ -25,7 +23,7 @@ pub clauses-smaller-then-found : goal.clauses-smaller-then-found
 clauses-smaller-then-found c =
     let now = c.clauses in
     let t =
-    forwards_less c.args.words.now c.args.bytes.now c.requires.0 c.args.from now.new now.at now.bytes now.invariant.1 (omega arith)
+    forwards_less c.args.words.now c.args.bytes.now c.requires.0 c.args.from now.last now.at now.bytes now.invariant.1 (omega arith)
     c.next-s.result.at c.next-s.ensures.1 in
     omega (arith, t.0, t.1)
 
@@ -35,15 +33,12 @@ clauses-preserved-then-found c =
     let bs = c.args.bytes.now in
     let now = c.clauses in
     let seen = c.next-s in
-    let t = forwards_less ws bs c.requires.0 c.args.from now.new now.at now.bytes now.invariant.1 (omega arith) seen.result.at seen.ensures.1 in (
+    let t = forwards_less ws bs c.requires.0 c.args.from now.last now.at now.bytes now.invariant.1 (omega arith) seen.result.at seen.ensures.1 in (
       omega (arith, t.0, now.invariant.0),
-      pass_neither (Split ws) ws bs c.requires.0 c.args.from now.new now.at now.bytes now.invariant.1 now.at seen.result.at
-          (forwards_turn ws bs c.requires.0 c.args.from now.new now.at now.bytes now.invariant.1 (omega arith) seen.result.at seen.ensures.1)
+      pass_neither (Split ws) ws bs c.requires.0 c.args.from now.last now.at now.bytes now.invariant.1 now.at seen.result.at
+          (forwards_turn ws bs c.requires.0 c.args.from now.last now.at now.bytes now.invariant.1 (omega arith) seen.result.at seen.ensures.1)
           seen.result.found seen.ensures.0 (omega arith),
     )
-
-pub shape_of-bytes-then-found-eq0 : goal.shape_of-bytes-then-found-eq0
-shape_of-bytes-then-found-eq0 c = omega (arith, c.clauses.invariant.1.extension.long)
 
 pub returns-then-found-eq0 : goal.returns-then-found-eq0
 returns-then-found-eq0 c =
@@ -51,8 +46,8 @@ returns-then-found-eq0 c =
     let bs = c.args.bytes.now in
     let now = c.clauses in
     let seen = c.next-s in
-    pass_falsified (Split ws) ws bs c.requires.0 c.args.from now.new now.at now.bytes now.invariant.1 now.at seen.result.at
-    (forwards_turn ws bs c.requires.0 c.args.from now.new now.at now.bytes now.invariant.1 (omega arith) seen.result.at seen.ensures.1)
+    pass_falsified (Split ws) ws bs c.requires.0 c.args.from now.last now.at now.bytes now.invariant.1 now.at seen.result.at
+    (forwards_turn ws bs c.requires.0 c.args.from now.last now.at now.bytes now.invariant.1 (omega arith) seen.result.at seen.ensures.1)
     seen.result.found seen.ensures.0 (omega arith)
 
 pub put-requires : goal.put-requires
@@ -64,7 +59,7 @@ pub clauses-smaller : goal.clauses-smaller
 clauses-smaller c =
     let now = c.clauses in
     let t =
-    forwards_less c.args.words.now c.args.bytes.now c.requires.0 c.args.from now.new now.at now.bytes now.invariant.1 (omega arith)
+    forwards_less c.args.words.now c.args.bytes.now c.requires.0 c.args.from now.last now.at now.bytes now.invariant.1 (omega arith)
     c.next-s.result.at c.next-s.ensures.1 in
     omega (arith, t.0, t.1)
 
@@ -74,18 +69,15 @@ clauses-preserved c =
     let bs = c.args.bytes.now in
     let now = c.clauses in
     let seen = c.next-s in
-    let t = forwards_less ws bs c.requires.0 c.args.from now.new now.at now.bytes now.invariant.1 (omega arith) seen.result.at seen.ensures.1 in (
+    let t = forwards_less ws bs c.requires.0 c.args.from now.last now.at now.bytes now.invariant.1 (omega arith) seen.result.at seen.ensures.1 in (
       omega (arith, t.0, now.invariant.0),
-      pass_unit (Split ws) ws bs c.requires.0 c.args.from now.new now.at now.bytes now.invariant.1 now.at seen.result.at
-          (forwards_turn ws bs c.requires.0 c.args.from now.new now.at now.bytes now.invariant.1 (omega arith) seen.result.at seen.ensures.1)
-          seen.result.found seen.ensures.0 c.put.new.1.0 (λ e. omega (arith, e)) (λ e. omega (arith, e)) (λ e. omega (arith, e, t.0, now.invariant.0)) c.put.ensures,
+      pass_unit (Split ws) ws bs c.requires.0 c.args.from now.last now.at now.bytes now.invariant.1 now.at seen.result.at
+          (forwards_turn ws bs c.requires.0 c.args.from now.last now.at now.bytes now.invariant.1 (omega arith) seen.result.at seen.ensures.1)
+          seen.result.found seen.ensures.0 c.put.new.bytes (λ e. omega (arith, e)) (λ e. omega (arith, e)) (λ e. omega (arith, e, t.0, now.invariant.0)) c.put.ensures,
     )
-
-pub shape_of-bytes : goal.shape_of-bytes
-shape_of-bytes c = omega (arith, c.clauses.invariant.1.extension.long)
 
 pub returns : goal.returns
 returns c =
     let now = c.clauses in
     rw c.pass_of.ensures
-    (forwards_done c.args.words.now c.args.bytes.now c.requires.0 c.args.from now.new now.at now.bytes now.invariant.1 (omega arith))
+    (forwards_done c.args.words.now c.args.bytes.now c.requires.0 c.args.from now.last now.at now.bytes now.invariant.1 (omega arith))

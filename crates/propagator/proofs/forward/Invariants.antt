@@ -1,12 +1,7 @@
 -- `propagator::forward` meets its contract. The loop's invariant: the clauses before the place are passed (`Forwards`). Assumes nothing.
-use native.Mathlib.Omega.{arith}
-use Prim.Native.Nat.{ℕ, ◌-◌, ◌≤◌}
-use mathlib.Core.Path.{sym, subst}
+use Prim.Native.Nat.{◌-◌, ◌≤◌}
 use lib.ListN.{length}
-use Rattle.propagator.specs.Pass.{ListPasses, Split}
-use Rattle.propagator.proofs.PassSoFar.{pass_falsified, pass_neither, pass_unit}
-use Rattle.propagator.proofs.Forwards.{Forwards, forwards_start, forwards_between, forwards_less, forwards_turn, forwards_done}
-use borrow.Author.Rules.{rules}
+use Rattle.propagator.proofs.Forwards.{Forwards}
 use Rattle.propagator.proofs.forward.Given as goal
 
 abbrev pub invariant-clauses : goal.invariant-clauses

@@ -1,8 +1,5 @@
 -- `propagator::head` meets its contract. The loop's invariant: the place is between two clauses. Assumes nothing.
 use native.Mathlib.Omega.{arith}
-use Prim.Native.Nat.{◌-◌}
-use lib.ListN.{length}
-use Rattle.propagator.specs.Pass.{Between}
 use Rattle.propagator.proofs.Fronts.{between_start, between_within, between_next}
 use Rattle.propagator.proofs.head.Goals as goal
 

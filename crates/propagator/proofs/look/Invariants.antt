@@ -1,9 +1,8 @@
 -- `propagator::look` meets its contract. The loop's invariant: the status from here on, with the open literal so far, is the clause's (`Looking`); an end word
 -- is still to come, so no length is tested. Assumes nothing.
-use native.Mathlib.Omega.{arith}
 use Prim.Native.Nat.{◌-◌}
 use lib.ListN.{length}
-use Rattle.propagator.proofs.Looks.{Looking, looking_start, looking_in, looking_done, looking_word, looking_neither, looking_on}
+use Rattle.propagator.proofs.Looks.{Looking}
 use Rattle.propagator.proofs.look.Given as goal
 
 abbrev pub invariant-literals : goal.invariant-literals

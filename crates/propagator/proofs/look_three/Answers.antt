@@ -2,7 +2,6 @@
 use native.Mathlib.Omega.{arith}
 use Prim.Native.Nat.{◌+◌}
 use Rattle.propagator.proofs.Looks.{met_on, met_neither}
-use borrow.Author.Rules.{rules}
 use Rattle.propagator.proofs.look_three.Goals as goal
 
 pub look_two-found-requires : goal.look_two-found-requires

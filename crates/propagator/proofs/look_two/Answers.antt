@@ -4,7 +4,6 @@ use mathlib.Core.Path.{refl}
 use Prim.Native.Nat.{◌+◌}
 use lib.ListN.{length}
 use Rattle.propagator.proofs.Looks.{met_start, met_on, met_neither, first_literal}
-use borrow.Author.Rules.{rules}
 use Rattle.propagator.proofs.look_two.Goals as goal
 
 pub meet-found-requires : goal.meet-found-requires

@@ -2,7 +2,6 @@
 use native.Mathlib.Omega.{arith}
 use lib.ListN.{length}
 use Rattle.propagator.proofs.Meets.{nothing_met, meet_true, meet_false, meet_first, meet_same, meet_second}
-use borrow.Author.Rules.{rules}
 use Rattle.propagator.proofs.meet.Goals as goal
 
 pub returns-then-v-true_byte : goal.returns-then-v-true_byte

@@ -6,7 +6,6 @@ use lib.ListN.{length}
 use Rattle.propagator.proofs.Looks.{ended_in, met_asks}
 use Rattle.propagator.proofs.Places.{between_ended}
 use Rattle.propagator.proofs.EndWords.{ended_words, ended_past}
-use borrow.Author.Rules.{rules}
 use Rattle.propagator.proofs.next.Goals as goal
 
 pub look_three-requires : goal.look_three-requires

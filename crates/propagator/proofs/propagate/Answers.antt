@@ -1,7 +1,6 @@
 -- `propagator::propagate` meets its contract: a refusal leaves the buffer, and what passes is filled. Assumes nothing.
 use mathlib.Core.Path.{sym, ◌∙◌}
 use Rattle.propagator.proofs.Replies.{reply_refused}
-use borrow.Author.Rules.{rules}
 use Rattle.propagator.proofs.propagate.Goals as goal
 
 pub fill-requires : goal.fill-requires

@@ -2,7 +2,6 @@
 use mathlib.Core.Path.{ap₂}
 use Prim.Native.Nat.{ℕ, ◌-◌}
 use lib.ListN.{set}
-use borrow.Author.Rules.{rules}
 use Rattle.propagator.proofs.put.Goals as goal
 
 pub returns : goal.returns

@@ -1,7 +1,6 @@
 -- `propagator::settle_all` meets its contract: what the front settles first makes no difference to what is reached. Assumes nothing.
 use mathlib.Core.Path.{◌∙◌}
 use Rattle.propagator.proofs.Fronts.{front_ready, front_long, front_conflict, front_ready_on, front_first}
-use borrow.Author.Rules.{rules}
 use Rattle.propagator.proofs.settle_all.Goals as goal
 
 pub slice_bounds-settle-end : goal.slice_bounds-settle-end
@@ -13,15 +12,15 @@ settle-requires c = front_ready c.args.words.now c.args.bytes.now c.requires c.h
 pub returns-then-settle : goal.returns-then-settle
 returns-then-settle c =
     front_conflict c.args.words.now c.args.bytes.now c.requires c.head-k.result c.head-k.ensures
-    c.settle.result c.settle.new.1.0 c.settle.ensures c.if-settle.true
+    c.settle.result c.settle.new.bytes c.settle.ensures c.if-settle.true
 
 pub settle-requires-2 : goal.settle-requires-2
 settle-requires-2 c =
     front_ready_on c.args.words.now c.args.bytes.now c.requires c.head-k.result c.head-k.ensures
-    c.settle.result c.settle.new.1.0 c.settle.ensures c.if-settle.false
+    c.settle.result c.settle.new.bytes c.settle.ensures c.if-settle.false
 
 pub returns : goal.returns
 returns c =
     c.settle-2.ensures
     ∙ front_first c.args.words.now c.args.bytes.now c.requires c.head-k.result c.head-k.ensures
-    c.settle.result c.settle.new.1.0 c.settle.ensures c.if-settle.false
+    c.settle.result c.settle.new.bytes c.settle.ensures c.if-settle.false

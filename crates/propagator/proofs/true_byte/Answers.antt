@@ -2,7 +2,6 @@
 use mathlib.Core.Path.{sym, ◌∙◌}
 use Rattle.word.specs.Word.{negated}
 use Rattle.propagator.proofs.Meets.{byte_negated, byte_plain}
-use borrow.Author.Rules.{rules}
 use Rattle.propagator.proofs.true_byte.Goals as goal
 
 pub returns-then-is_negated : goal.returns-then-is_negated
