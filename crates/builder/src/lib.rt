@@ -22,7 +22,7 @@ pub enum Root {
 }
 
 // The node of an undecided remainder at level i, found or built. Of the reply's gap, `near` is the second run's part, where the new record will stand.
-#[cycle(build_node_build_row_find_node)]
+#[cycle(building)]
 fn find_node<'a>(
     coefs: &'a [u32],
     ends: &'a [u32],
@@ -49,7 +49,7 @@ fn find_node<'a>(
 
 // The node of an undecided remainder at level i that no record holds, built from its row. The row's own nodes stand behind it, so the gap is still `near`, as
 // the finder replied, unless the runs were merged in between.
-#[cycle(build_node_build_row_find_node)]
+#[cycle(building)]
 fn build_node<'a>(
     coefs: &'a [u32],
     ends: &'a [u32],
@@ -75,7 +75,7 @@ fn build_node<'a>(
 }
 
 // The label of an undecided remainder at level i: the overlap of its children's labels, whose nodes are found or built.
-#[cycle(build_node_build_row_find_node)]
+#[cycle(building)]
 fn build_row<'a>(
     coefs: &'a [u32],
     ends: &'a [u32],

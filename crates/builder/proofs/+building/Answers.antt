@@ -2,55 +2,26 @@
 -- levels left fall. Document 01 has the children left fall behind them; here the row is a loop, whose turns take one child each. Each answer is a step of
 -- building. Assumes nothing.
 use mathlib.Core.Path.{◌≡◌, refl, sym, subst, ◌∙◌}
-use mathlib.Core.Logic.{⊎_elim}
-use mathlib.Core.List.{[], ◌∷◌}
 use Prim.Native.Nat.{ℕ, ◌+◌, ◌-◌, ◌*◌, ◌<◌}
 use native.Mathlib.Omega.{arith}
 use lib.ListN.{length, get_or}
 use borrow.Author.Rules.{rules}
-use denote.Enum.Declared.{tag_of}
-use types.Run.{OneOf}
 use Rattle.word.specs.declared.Remainder.{Remainder}
 use Rattle.finder.proofs.Says.{nothing_missing}
 use Rattle.constraint.proofs.Slices.{rest_at, rests_count}
-use Rattle.builder_steps.specs.declared.Branch.{Branch}
-use Rattle.builder_steps.specs.declared.Branch.TheVariants.{False, True, On}
+use Rattle.builder_steps.specs.declared.Branch.TheVariants.{On}
 use Rattle.builder_steps.specs.Put.{Two}
 use Rattle.builder.specs.Built.{Good}
 use Rattle.builder.proofs.Steps.{small, product, ready_next, end_small, on_case, found_ok, row_missing, node_put_ok, moved_fits, Sofar, sofar_start, sofar_skip, sofar_node, sofar_full, sofar_end}
-use Rattle.builder_steps.specs.contracts.Branch as Branch-declared
-use Rattle.builder.proofs.+build_node_build_row_find_node.Goals as goal
-
--- a branch that is not the last of its variants
-not_on : (b : Branch) → OneOf (0 ∷ 1 ∷ []) (tag_of Branch-declared.the_type b) → (x : Remainder) (m : ℕ) → b ≡ On x m → ⊥
-not_on (False x) w y m q = absurd (let z : ◌≡◌ {A = ℕ} 0 1 = cc in omega arith)
-not_on (True x) w y m q = absurd (let z : ◌≡◌ {A = ℕ} 0 1 = cc in omega arith)
-not_on (On x n) w y m q = ⊎_elim (λ (e : ◌≡◌ {A = ℕ} 2 0). absurd (omega arith)) (λ (e : ◌≡◌ {A = ℕ} 2 1). absurd (omega arith)) w
-
--- Levels left fall from a row to the nodes of its children; at one level the search comes before the building, and that before the row.
-abbrev μ-find-node : Measures 3 find-node-kinds.ps ℕ
-μ-find-node κs a = (length a.0.now - a.1.1.1.1.1.1.1.0) * 3 + 2
-
--- what each asks and learns of the functions that it calls, below the measure t
-abbrev find-callees : ℕ → find-node-lts.Claims
-find-callees t = (find-reads.Asked, find-reads.Learnt, build-node-below t, build-node.Post, label-at-reads.Asked, label-at-reads.Learnt)
-
--- before each child: the row so far
-abbrev build-row-Inv-children : build-row-lts.invariant-children
-build-row-Inv-children coefs ends rests table₀ work₀ main count i r end m₀ n₀ e₀ j₀ table work m n e j =
-    Sofar coefs ends rests i r.0 table₀ count (length work₀) j e table m n × (length work ≡ length work₀) × (end ≡ get_or ends i 0)
-
--- the children left
-abbrev build-row-μ-children : build-row-lts.decreases-children
-build-row-μ-children coefs ends rests table₀ work₀ main count i r end m₀ n₀ e₀ j₀ table work m n e j = end + 1 - j
+use Rattle.builder.proofs.+building.Goals as goal
 
 pub find_node-find-requires : goal.find_node-find-requires
 find_node-find-requires t c =
-    let T = c.requires.1.1.0.0.two.runs in
+    let T = c.requires.good.0.two.runs in
     (T.mid, T.room, T.main, T.pending)
 
 pub find_node-build_node-requires : goal.find_node-build_node-requires
-find_node-build_node-requires t c = (omega (arith, c.requires.0), (c.requires.1.0, (c.requires.1.1.0, (c.requires.1.1.1, nothing_missing _ _ _ _ (sym c.find.ensures ∙ c.in_default.is)))))
+find_node-build_node-requires t c = (omega arith, (c.requires.ready, (c.requires.good, (c.requires.r_bound, nothing_missing _ _ _ _ (sym c.find.ensures ∙ c.in_default.is)))))
 
 pub find_node-shape_of-table-in_default : goal.find_node-shape_of-table-in_default
 find_node-shape_of-table-in_default t c = c.build_node.auto.table
@@ -63,16 +34,16 @@ find_node-returns-in_default t c = c.build_node.ensures
 
 pub find_node-label_at-requires : goal.find_node-label_at-requires
 find_node-label_at-requires t c =
-    (found_ok c.args.coefs.now c.args.ends.now c.args.rests.now c.args.table.now c.args.main c.args.count (length c.args.work.now) c.args.i c.args.r.0 c.in-At.k.0 c.requires.1.1.0.0
+    (found_ok c.args.coefs.now c.args.ends.now c.args.rests.now c.args.table.now c.args.main c.args.count (length c.args.work.now) c.args.i c.args.r.0 c.in-At.k.0 c.requires.good.0
     (sym c.find.ensures ∙ c.in-At.is)).0
 
 pub find_node-returns : goal.find_node-returns
 find_node-returns t c =
-    (found_ok c.args.coefs.now c.args.ends.now c.args.rests.now c.args.table.now c.args.main c.args.count (length c.args.work.now) c.args.i c.args.r.0 c.in-At.k.0 c.requires.1.1.0.0
+    (found_ok c.args.coefs.now c.args.ends.now c.args.rests.now c.args.table.now c.args.main c.args.count (length c.args.work.now) c.args.i c.args.r.0 c.in-At.k.0 c.requires.good.0
     (sym c.find.ensures ∙ c.in-At.is)).1 c.label_at.result c.label_at.ensures
 
 pub build_node-build_row-row-requires : goal.build_node-build_row-row-requires
-build_node-build_row-row-requires t c = (omega (arith, c.requires.0), (c.requires.1.0, (c.requires.1.1.0, c.requires.1.1.1.0)))
+build_node-build_row-row-requires t c = (omega arith, (c.requires.ready, (c.requires.good, c.requires.r_bound.0)))
 
 pub build_node-shape_of-table-in_default : goal.build_node-shape_of-table-in_default
 build_node-shape_of-table-in_default t c = c.build_row-row.auto.table
@@ -88,8 +59,8 @@ build_node-put-requires t c =
     let d = rw c.in-Done.is at c.build_row-row.ensures in
     let same = c.build_row-row.auto.work in
     let none = row_missing c.args.coefs.now c.args.ends.now c.args.rests.now c.args.i c.args.r.0 c.args.table.now c.args.main c.args.count (length c.args.work.now) _ _ _ _
-    c.requires.1.1.0.0 c.requires.1.1.1.1 d in
-    (subst (Two _ _ _) (sym same) d.two, omega (arith, same, c.requires.1.1.0.1), none)
+    c.requires.good.0 c.requires.r_bound.1 d in
+    (subst (Two _ _ _) (sym same) d.two, omega (arith, same, c.requires.good.1), none)
 
 pub build_node-shape_of-table : goal.build_node-shape_of-table
 build_node-shape_of-table t c = c.put.auto.table ∙ c.build_row-row.auto.table
@@ -101,25 +72,25 @@ pub build_node-returns : goal.build_node-returns
 build_node-returns t c =
     let d = rw c.in-Done.is at c.build_row-row.ensures in
     node_put_ok c.args.coefs.now c.args.ends.now c.args.rests.now c.args.i c.args.r.0 c.args.table.now c.args.main c.args.count (length c.args.work.now) _ _ _ _ c.put.new.table c.put.result
-    c.requires.1.0 c.requires.1.1.0.0 c.requires.1.1.1.0 c.requires.1.1.1.1 d (rw c.build_row-row.auto.work at c.put.ensures)
+    c.requires.ready c.requires.good.0 c.requires.r_bound.0 c.requires.r_bound.1 d (rw c.build_row-row.auto.work at c.put.ensures)
 
 pub build_row-bounds-rests-i : goal.build_row-bounds-rests-i
-build_row-bounds-rests-i t c = omega (arith, c.requires.1.0.level, rests_count c.args.coefs.now c.args.ends.now c.args.rests.now c.requires.1.0.lent)
+build_row-bounds-rests-i t c = omega (arith, c.requires.ready.level, rests_count c.args.coefs.now c.args.ends.now c.args.rests.now c.requires.ready.lent)
 
 pub build_row-children-init : goal.build_row-children-init
-build_row-children-init t c = (rw c.all_below-e.ensures (sofar_start c.args.coefs.now c.args.ends.now c.args.rests.now c.args.i c.args.r.0 c.args.table.now c.args.main c.args.count (length c.args.work.now) c.requires.1.1.0.0), refl, refl)
+build_row-children-init t c = (rw c.all_below-e.ensures (sofar_start c.args.coefs.now c.args.ends.now c.args.rests.now c.args.i c.args.r.0 c.args.table.now c.args.main c.args.count (length c.args.work.now) c.requires.good.0), refl, refl)
 
 pub build_row-child-branch-requires : goal.build_row-child-branch-requires
 build_row-child-branch-requires t c =
     let l = c.children in
-    let rd = c.requires.1.0 in
+    let rd = c.requires.ready in
     let pr = product c.args.coefs.now c.args.ends.now c.args.rests.now c.args.i l.j rd (omega (arith, c.children-test.true, l.invariant.2)) in
     (rd.level, omega (arith, rd.level, rests_count c.args.coefs.now c.args.ends.now c.args.rests.now rd.lent), omega (arith, pr, rest_at c.args.coefs.now c.args.ends.now c.args.rests.now rd.lent c.args.i (omega (arith, rd.level)), small c.args.coefs.now c.args.ends.now c.args.rests.now rd.lent c.args.i))
 
 pub build_row-overflow_add-j : goal.build_row-overflow_add-j
 build_row-overflow_add-j t c =
     let l = c.children in
-    omega (arith, c.children-test.true, l.invariant.2, end_small c.args.coefs.now c.args.ends.now c.args.rests.now c.args.i c.requires.1.0)
+    omega (arith, c.children-test.true, l.invariant.2, end_small c.args.coefs.now c.args.ends.now c.args.rests.now c.args.i c.requires.ready)
 
 pub build_row-children-smaller-in_default : goal.build_row-children-smaller-in_default
 build_row-children-smaller-in_default t c = omega (arith, c.children-test.true)
@@ -127,8 +98,8 @@ build_row-children-smaller-in_default t c = omega (arith, c.children-test.true)
 pub build_row-children-preserved-in_default : goal.build_row-children-preserved-in_default
 build_row-children-preserved-in_default t c =
     let l = c.children in
-    let apart = not_on c.child-branch.result c.in_default.keys2 in (
-      sofar_skip c.args.coefs.now c.args.ends.now c.args.rests.now c.args.i c.args.r.0 c.args.table.now c.args.count (length c.args.work.now) l.j l.e l.table l.m l.n c.requires.1.0 l.invariant.0
+    let apart : (x : Remainder) (o : ℕ) → c.child-branch.result ≡ On x o → ⊥ = c.in_default.not-On in (
+      sofar_skip c.args.coefs.now c.args.ends.now c.args.rests.now c.args.i c.args.r.0 c.args.table.now c.args.count (length c.args.work.now) l.j l.e l.table l.m l.n c.requires.ready l.invariant.0
           (omega (arith, c.children-test.true, l.invariant.2)) c.child-branch.result c.child-branch.ensures apart c.cut-e.result c.cut-e.ensures,
       l.invariant.1,
       l.invariant.2,
@@ -137,10 +108,10 @@ build_row-children-preserved-in_default t c =
 pub build_row-find_node-node-requires : goal.build_row-find_node-node-requires
 build_row-find_node-node-requires t c =
     let l = c.children in
-    let rd = c.requires.1.0 in
+    let rd = c.requires.ready in
     let k = on_case (get_or c.args.coefs.now c.args.i 0) (get_or c.args.rests.now (c.args.i + 1) 0) c.args.r.0 l.j c.in-On.c c.in-On.moved (sym c.in-On.is ∙ c.child-branch.ensures) in
     let same = l.invariant.1 in
-    (omega (arith, c.requires.0, rd.level), (ready_next c.args.coefs.now c.args.ends.now c.args.rests.now c.args.i _ rd k.below, ((subst (Good _ _ _ _ _) (sym same) l.invariant.0.good', omega (arith, same, c.requires.1.1.0.1)), k.below)))
+    (omega (arith, rd.level), (ready_next c.args.coefs.now c.args.ends.now c.args.rests.now c.args.i _ rd k.below, ((subst (Good _ _ _ _ _) (sym same) l.invariant.0.good', omega (arith, same, c.requires.good.1)), k.below)))
 
 pub build_row-shape_of-table-in_default-node : goal.build_row-shape_of-table-in_default-node
 build_row-shape_of-table-in_default-node t c = c.find_node-node.auto.table ∙ c.children.invariant.0.long
@@ -152,7 +123,7 @@ pub build_row-returns-in_default-node : goal.build_row-returns-in_default-node
 build_row-returns-in_default-node t c =
     let l = c.children in
     let k = on_case (get_or c.args.coefs.now c.args.i 0) (get_or c.args.rests.now (c.args.i + 1) 0) c.args.r.0 l.j c.in-On.c c.in-On.moved (sym c.in-On.is ∙ c.child-branch.ensures) in
-    sofar_full c.args.coefs.now c.args.ends.now c.args.rests.now c.args.i c.args.r.0 c.args.table.now c.args.count (length c.args.work.now) l.j l.e l.table l.m l.n c.requires.1.0 l.invariant.0
+    sofar_full c.args.coefs.now c.args.ends.now c.args.rests.now c.args.i c.args.r.0 c.args.table.now c.args.count (length c.args.work.now) l.j l.e l.table l.m l.n c.requires.ready l.invariant.0
     (omega (arith, c.children-test.true, l.invariant.2)) _ _ k l.table (rw c.in_default-node.is at c.find_node-node.ensures)
 
 pub build_row-overlap-e-requires : goal.build_row-overlap-e-requires
@@ -160,7 +131,7 @@ build_row-overlap-e-requires t c =
     let l = c.children in
     let k = on_case (get_or c.args.coefs.now c.args.i 0) (get_or c.args.rests.now (c.args.i + 1) 0) c.args.r.0 l.j c.in-On.c c.in-On.moved (sym c.in-On.is ∙ c.child-branch.ensures) in
     let d = rw c.in-Done.is at c.find_node-node.ensures in
-    moved_fits c.args.coefs.now c.args.ends.now c.args.rests.now c.args.i c.args.r.0 l.j c.requires.1.0 (omega (arith, c.children-test.true, l.invariant.2)) _ _ k _ d.lab
+    moved_fits c.args.coefs.now c.args.ends.now c.args.rests.now c.args.i c.args.r.0 l.j c.requires.ready (omega (arith, c.children-test.true, l.invariant.2)) _ _ k _ d.lab
 
 pub build_row-children-smaller : goal.build_row-children-smaller
 build_row-children-smaller t c = omega (arith, c.children-test.true)
@@ -171,7 +142,7 @@ build_row-children-preserved t c =
     let k = on_case (get_or c.args.coefs.now c.args.i 0) (get_or c.args.rests.now (c.args.i + 1) 0) c.args.r.0 l.j c.in-On.c c.in-On.moved (sym c.in-On.is ∙ c.child-branch.ensures) in
     let d = rw c.in-Done.is at c.find_node-node.ensures in
     let same = l.invariant.1 in (
-      sofar_node c.args.coefs.now c.args.ends.now c.args.rests.now c.args.i c.args.r.0 c.args.table.now c.args.count (length c.args.work.now) l.j l.e l.table l.m l.n c.requires.1.0 l.invariant.0
+      sofar_node c.args.coefs.now c.args.ends.now c.args.rests.now c.args.i c.args.r.0 c.args.table.now c.args.count (length c.args.work.now) l.j l.e l.table l.m l.n c.requires.ready l.invariant.0
           (omega (arith, c.children-test.true, l.invariant.2)) _ _ k _ _ _ _ (rw same at d) c.overlap-e.result c.overlap-e.ensures,
       c.find_node-node.auto.work ∙ same,
       l.invariant.2,
@@ -186,5 +157,5 @@ build_row-shape_of-work t c = c.children.invariant.1
 pub build_row-returns : goal.build_row-returns
 build_row-returns t c =
     let l = c.children in
-    sofar_end c.args.coefs.now c.args.ends.now c.args.rests.now c.args.i c.args.r.0 c.args.table.now c.args.count (length c.args.work.now) l.j l.e l.table l.m l.n c.requires.1.0 l.invariant.0
+    sofar_end c.args.coefs.now c.args.ends.now c.args.rests.now c.args.i c.args.r.0 c.args.table.now c.args.count (length c.args.work.now) l.j l.e l.table l.m l.n c.requires.ready l.invariant.0
     (omega (arith, c.children-test.false, l.invariant.2))
