@@ -1,11 +1,11 @@
 // Standard input, read whole or not at all.
 #![tactic(auto)]
 
-ghost use Rattle.std.specs.Prelude.{◌≡◌, true, pos};
-ghost use Rattle.std.specs.Int.Signed.{lt_z};
-ghost use Rattle.io.specs.Counts.{IsPrefixLen};
+ghost use Rattle.std.specs.Prelude.{◌≡◌, ◌<◌, ◌≤◌, true, false, length, take, min, is_err, IfOk};
+ghost use Rattle.std.specs.Io.KnownBytes.{Consumes, IsAtEnd};
 
-use libc::{STDERR_FILENO, STDIN_FILENO};
+use std::io;
+use std::io::Read;
 
 // What reading gives: whether a read failed, and how many bytes came before the end, or as many as there is room for; none count where a read failed.
 #[derive(Drop)]
@@ -14,36 +14,44 @@ pub struct Input {
     pub count: usize,
 }
 
-// What the reply of one read says: a number below 0 that it failed, any other how many bytes came, none at the end.
-fn reply(got: isize, into: &[u8]) -> Input
-    ensures failed_value { result.failed ≡ lt_z got (pos 0) }
-    ensures prefix_len { IsPrefixLen result.count into.now }
+// What the reply of one read says: an error that it failed, a number how many bytes came, none at the end.
+fn reply(got: io::Result<usize>, into: &[u8]) -> Input
+    ensures failed_value { result.failed ≡ is_err got }
+    ensures prefix_len { (result.count ≤ length into.now) × (result.count ≡ length (take result.count into.now)) }
+    ensures count_value { IfOk got (λ n. result.count ≡ min n (length into.now)) }
 {
     Input {
-        failed: got < 0,
-        count: io::count(got, into),
+        failed: got.is_err(),
+        count: got.unwrap_or(0).min(into.len()),
     }
 }
 
-// One read of standard input. One that a signal breaks off counts as failed, since nothing says how often it would have to be tried again.
-fn read_once(into: &mut [u8]) -> Input
-    ensures { IsPrefixLen result.count into.new }
+// One read. One that a signal breaks off counts as failed, since nothing says how often it would have to be tried again.
+fn read_once<R: Read>(reader: &mut R, into: &mut [u8]) -> Input
+    ensures prefix_len { (result.count ≤ length into.new) × (result.count ≡ length (take result.count into.new)) }
+    ensures bytes { result.failed ≡ false
+        → Consumes (R.remaining reader.old) (R.remaining reader.new) (take result.count into.new) }
+    ensures end { result.failed ≡ false → result.count ≡ 0 → 0 < length into.new
+        → IsAtEnd (R.remaining reader.new) }
 {
-    let got = libc::read(STDIN_FILENO, into);
+    let got = reader.read(into);
     reply(got, into)
 }
 
-// Reads standard input to its end, or until the list is full. Where a read fails, a line on standard error says so. No contract can speak of what a read puts
-// into the list; this one says that no byte counts where a read failed, and that those that count lie within the list.
-pub fn read_input(into: &mut [u8]) -> Input
+// Reads to the end, or until the list is full. No byte counts where a read failed, and those that count lie within the list. Where the type of the reader says
+// which bytes it gives, those that count are the first of them, and they are all unless the list is full.
+pub fn read_whole<R: Read>(reader: &mut R, into: &mut [u8]) -> Input
     ensures count_value { result.failed ≡ true → result.count ≡ 0 }
-    ensures prefix_len { IsPrefixLen result.count into.new }
+    ensures prefix_len { (result.count ≤ length into.new) × (result.count ≡ length (take result.count into.new)) }
+    ensures bytes { result.failed ≡ false
+        → Consumes (R.remaining reader.old) (R.remaining reader.new) (take result.count into.new) }
+    ensures end { result.failed ≡ false → result.count < length into.new
+        → IsAtEnd (R.remaining reader.new) }
 {
     let mut at = 0;
     'reads: while at < into.len() {
-        let read = read_once(&mut into[at..]);
+        let read = read_once(reader, &mut into[at..]);
         if read.failed {
-            io::write_all(STDERR_FILENO, b"cannot read standard input\n");
             return Input {
                 failed: true,
                 count: 0,
@@ -58,4 +66,17 @@ pub fn read_input(into: &mut [u8]) -> Input
         failed: false,
         count: at,
     }
+}
+
+// Reads standard input to its end, or until the list is full. Where a read fails, a line on standard error says so. No contract can speak of the bytes that a
+// process is given; this one says that no byte counts where a read failed, and that those that count lie within the list.
+pub fn read_input(rt: &(impl io::Input + Eprint), into: &mut [u8]) -> Input
+    ensures count_value { result.failed ≡ true → result.count ≡ 0 }
+    ensures prefix_len { (result.count ≤ length into.new) × (result.count ≡ length (take result.count into.new)) }
+{
+    let read = read_whole(&mut rt.reader(), into);
+    if read.failed {
+        let _ = rt.eprintln("cannot read standard input");
+    }
+    read
 }
