@@ -9,7 +9,7 @@ use Rattle.encoder.proofs.encode_record.Goals as goal
 
 pub encode_arrays-requires : goal.encode_arrays-requires
 encode_arrays-requires c =
-    let a = arrays (stated c.requires.0) (checked_within main_limits c.requires.0 c.requires.1) c.args.t2 c.requires.2 in
+    let a = arrays (stated c.requires.0) (checked_within main_limits c.requires.0 c.requires.1) c.args.c c.requires.2 in
     record {
       n_in_bounds = a.long;
       lent = a.lent;
@@ -17,4 +17,4 @@ encode_arrays-requires c =
     }
 
 pub returns : goal.returns
-returns c = λ ws ok is. answer_stated ws ok c.args.limits c.args.t2 is _ _ _ _ _ _ _ (c.encode_arrays.ensures _ (bound_held (stated ws) (checked_within main_limits ws ok) c.args.t2 is))
+returns c = λ ws ok is. answer_stated ws ok c.args.limits c.args.c is _ _ _ _ _ _ _ (c.encode_arrays.ensures _ (bound_held (stated ws) (checked_within main_limits ws ok) c.args.c is))
