@@ -36,7 +36,10 @@ slice_bounds-put_node-count c =
     w.0
 
 pub offset_bounds-edges-first : goal.offset_bounds-edges-first
-offset_bounds-edges-first c = omega (arith, sub-put-node c, part-put-node-end c)
+offset_bounds-edges-first c =
+    let l = c.requires.1 in
+    let w = places l c.nodes.node _ _ (omega arith) (c.first_edge-first.ensures _ _ l) (c.first_edge-past.ensures _ _ l) in
+    omega (arith, w.0, w.1)
 
 pub put_node-at-requires : goal.put_node-at-requires
 put_node-at-requires c = omega (arith, c.requires.1.room)
