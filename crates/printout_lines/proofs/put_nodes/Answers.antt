@@ -35,6 +35,18 @@ slice_bounds-put_node-count c =
     let w = places l c.nodes.node _ _ (omega arith) (c.first_edge-first.ensures _ _ l) (c.first_edge-past.ensures _ _ l) in
     w.0
 
+pub slice_bounds-put_node-start : goal.slice_bounds-put_node-start
+slice_bounds-put_node-start c =
+    let l = c.requires.1 in
+    let w = places l c.nodes.node _ _ (omega arith) (c.first_edge-first.ensures _ _ l) (c.first_edge-past.ensures _ _ l) in
+    w.0
+
+pub slice_bounds-put_node-end : goal.slice_bounds-put_node-end
+slice_bounds-put_node-end c =
+    let l = c.requires.1 in
+    let w = places l c.nodes.node _ _ (omega arith) (c.first_edge-first.ensures _ _ l) (c.first_edge-past.ensures _ _ l) in
+    w.1
+
 pub offset_bounds-edges-first : goal.offset_bounds-edges-first
 offset_bounds-edges-first c =
     let l = c.requires.1 in
