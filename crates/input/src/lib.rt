@@ -38,9 +38,10 @@ fn read_once<R: Read>(reader: &mut R, into: &mut [u8]) -> Input
     reply(got, into)
 }
 
-// Reads to the end, or until the list is full. No byte counts where a read failed, and those that count lie within the list. Where the type of the reader says
-// which bytes it gives, those that count are the first of them, and they are all unless the list is full.
-pub fn read_whole<R: Read>(reader: &mut R, into: &mut [u8]) -> Input
+// Reads standard input, or what stands for it, to its end, or until the list is full. Where a read fails, a line on standard error says so. The contract says
+// that no byte counts where a read failed, and that those that count lie within the list. Where the type of the reader tells its bytes, those that count are the
+// first of them, and all unless the list is full; standard input's type does not.
+pub fn read_input<R: Read>(rt: &impl Eprint, reader: &mut R, into: &mut [u8]) -> Input
     ensures count_value { result.failed ≡ true → result.count ≡ 0 }
     ensures prefix_len { (result.count ≤ length into.new) × (result.count ≡ length (take result.count into.new)) }
     ensures bytes { result.failed ≡ false
@@ -52,6 +53,7 @@ pub fn read_whole<R: Read>(reader: &mut R, into: &mut [u8]) -> Input
     'reads: while at < into.len() {
         let read = read_once(reader, &mut into[at..]);
         if read.failed {
+            let _ = rt.eprintln("cannot read standard input");
             return Input {
                 failed: true,
                 count: 0,
@@ -66,17 +68,4 @@ pub fn read_whole<R: Read>(reader: &mut R, into: &mut [u8]) -> Input
         failed: false,
         count: at,
     }
-}
-
-// Reads standard input to its end, or until the list is full. Where a read fails, a line on standard error says so. No contract can speak of the bytes that a
-// process is given; this one says that no byte counts where a read failed, and that those that count lie within the list.
-pub fn read_input(rt: &(impl io::Input + Eprint), into: &mut [u8]) -> Input
-    ensures count_value { result.failed ≡ true → result.count ≡ 0 }
-    ensures prefix_len { (result.count ≤ length into.new) × (result.count ≡ length (take result.count into.new)) }
-{
-    let read = read_whole(&mut rt.reader(), into);
-    if read.failed {
-        let _ = rt.eprintln("cannot read standard input");
-    }
-    read
 }

@@ -3,7 +3,7 @@
 
 fn main(rt: HostRuntime) {
     let mut input = [0u8; printout::READ];
-    let read = input::read_input(&rt, &mut input);
+    let read = input::read_input(&rt, &mut rt.stdin(), &mut input);
     if read.failed {
         return;
     }

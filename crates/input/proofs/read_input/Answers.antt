@@ -1,7 +1,7 @@
--- `input::read_whole` meets its contract: what came stands before `at`, which each turn moves on within the list. Assumes nothing.
+-- `input::read_input` meets its contract: what came stands before `at`, which each turn moves on within the list. Assumes nothing.
 use Rattle.std.proofs.Common.{rules}
 use Rattle.input.proofs.Reading.{Consumes-read}
-use Rattle.input.proofs.read_whole.Goals as goal
+use Rattle.input.proofs.read_input.Goals as goal
 
 pub reads-preserved : goal.reads-preserved
 reads-preserved g c =
