@@ -236,3 +236,7 @@ printed_whole f bs t e w first t' e' w' out r a b c n s =
     let p = subst (λ (x : List ℕ). Printed x first out r) (λ i. shown_in f bs (a i) (b i) (c i)) s.text in
     let q = printed_all p (omega (arith, shown_fits f bs)) in
     (record { shows = s; reply = q.0; text = q.1 }, (printed_inside p, printed_count p))
+
+-- the two facts under the names of the contract's clauses
+pub printed_clauses : {A B : Type 0} → A × B → record { shows_all : A; upper_bound : B }
+printed_clauses p = record { shows_all = p.0; upper_bound = p.1 }

@@ -118,3 +118,7 @@ marks_whole bs ws out ws' out' x r n f w =
     let p = printed (wrote_as (ap answer_text f.0) w) in
     let q = printed_all p (omega (arith, mark_few bs)) in
     (record { reply = q.0; text = q.1; words = f.1 }, (printed_inside p, printed_count p))
+
+-- the two facts under the names of the contract's clauses
+pub marks_clauses : {A B : Type 0} → A × B → record { marks : A; upper_bound : B }
+marks_clauses p = record { marks = p.0; upper_bound = p.1 }

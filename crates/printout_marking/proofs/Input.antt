@@ -48,3 +48,7 @@ bytes_enough bs = go (ltb most_hand_in (length bs)) refl
     go : (p : Bool) → ltb most_hand_in (length bs) ≡ p → bytes_answer (take (suc most_hand_in) bs) ≡ bytes_answer bs
     go true e = let l = ltb-true most_hand_in (length bs) e in says_long (take (suc most_hand_in) bs) (omega (arith, length-take (suc most_hand_in) bs)) ∙ sym (says_long bs l)
     go false e = let l = ltb-false most_hand_in (length bs) e in ap bytes_answer (take_all (suc most_hand_in) bs (omega arith))
+
+-- the two facts under the names of the contract's clauses
+pub answer_clauses : {A B : Type 0} → A × B → record { value : A; words_after : B }
+answer_clauses p = record { value = p.0; words_after = p.1 }

@@ -18,4 +18,4 @@ pub slice_bounds-put_words-end : goal.slice_bounds-put_words-end
 slice_bounds-put_words-end c = printed_count c.words_of-n.ensures
 
 pub returns : goal.returns
-returns c = shows_words _ _ _ _ _ _ _ _ _ _ _ _ _ _ (omega arith) (omega arith) (omega arith) c.words_of-n.ensures c.put_words.ensures
+returns c = shows_words _ _ _ _ _ _ _ _ _ _ _ _ _ _ (omega arith) (omega arith) (omega arith) c.words_of-n.ensures (c.put_words.ensures.wrote, c.put_words.ensures.leaves)
