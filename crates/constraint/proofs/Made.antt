@@ -19,7 +19,7 @@ use Rattle.constraint_bound.specs.declared.Difference.{Difference}
 use Rattle.constraint_bound.specs.declared.Bound.{Bound}
 use Rattle.constraint.specs.declared.making.Item.{Item}
 use Rattle.limits.specs.Limits.{main_limits}
-use Rattle.constraint_words.specs.Reading.{has_relation, first_item, items, term_checked, term_of, terms_from, terms_in, relation_in, bound_in, checked, as_written, stated}
+use Rattle.constraint_words.specs.Reading.{has_relation, first_item, term_checked, term_of, terms_from, terms_in, relation_in, bound_in, checked, as_written, stated}
 use Rattle.constraint.specs.Held.{held_of}
 use Rattle.constraint_bound.specs.Bound.{bound_of}
 use Rattle.constraint_bound.specs.Sums.{most_bound, most_shift, most_sum, Differ, added}

@@ -7,8 +7,7 @@ use lib.Dec.{eqb, leb}
 use borrow.Author.Tests.{leb-true, leb-false, eqb-false}
 use Rattle.word.specs.Word.{last_boolean, last_count, literal_word, end_word}
 use Rattle.word.proofs.Tests.{between_is}
-use Rattle.dimacs_text.specs.Text.{most_clauses}
-use Rattle.dimacs_text.specs.Machine.{GoodCount, GoodSpot, GoodSlot, GoodOpen, GoodRole, GoodState, Count, count, Spot, before, after, Slot, after_p, after_cnf, after_first, Role, first, second, literal, State, gap, comment, seen_p, seen_c, seen_cn, seen_cnf, spaces, num, minus, closed, Next, bad, on, put, blank?, space?, digit?, limit, lead, begin, opens, after_digits, step}
+use Rattle.dimacs_text.specs.Machine.{GoodSpot, GoodSlot, GoodOpen, GoodRole, GoodState, Count, count, Spot, before, after, Slot, after_p, after_cnf, after_first, Role, first, second, literal, State, gap, comment, seen_p, seen_c, seen_cn, seen_cnf, spaces, num, minus, closed, Next, bad, on, put, blank?, space?, digit?, limit, lead, begin, opens, after_digits, step}
 use Rattle.dimacs_text.proofs.Machine.{cond_elim}
 
 -- ---- Steps keep to the limits, and their words fit

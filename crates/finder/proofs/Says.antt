@@ -1,6 +1,6 @@
 -- WHAT THE FINDER'S REPLY SAYS: a number is that of a record that holds the remainder, and no record before it does; "nothing" is the reply just where
 -- no record does, with the gap. By induction on the records. Assumes nothing.
-use mathlib.Core.Path.{◌≡◌, refl, sym, ap, ◌∙◌}
+use mathlib.Core.Path.{◌≡◌, refl, sym, ◌∙◌}
 use mathlib.Core.Logic.{◌↔◌}
 use mathlib.Core.List.{List, [], ◌∷◌}
 use mathlib.Core.Bool.{Bool, true, false, ◌&&◌, cond, true≢false}

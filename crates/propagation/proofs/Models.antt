@@ -1,7 +1,7 @@
 -- VALUES THAT MAKE ALL CLAUSES TRUE: the literals that they make true, of the Booleans that the clauses have, are closed under unit clauses, without a
 -- conflict. So all that is settled from some of them is true under such values. Assumes nothing.
 use mathlib.Core.Path.{refl, sym, subst, ◌∙◌}
-use mathlib.Core.Logic.{◌⊎◌, inl, inr, ⊎_elim}
+use mathlib.Core.Logic.{inl, inr, ⊎_elim}
 use mathlib.Core.List.{List, [], ◌∷◌}
 use Prim.Native.Nat.{ℕ, ◌≤◌}
 use Rattle.clause.specs.Meaning.{Literal, Clause, Values, LiteralTrue, ClauseTrue, AllTrue}

@@ -1,6 +1,5 @@
 -- `clause_buffer::literal` meets its contract: each arm is the word that the definition gives for its sign.
 -- Assumes nothing.
-use borrow.Author.Rules.{rules}
 use Rattle.clause_buffer.proofs.literal.Goals as goal
 
 pub returns-then-says : goal.returns-then-says

@@ -1,6 +1,5 @@
 -- `clause_buffer::put_one` meets its contract: its stores are a run of stores from the place on.
 -- Assumes nothing.
-use borrow.Author.Rules.{rules}
 use mathlib.Core.Path.{◌≡◌}
 use mathlib.Core.List.{[], ◌∷◌}
 use Prim.Native.Nat.{suc, ◌+◌}

@@ -1,12 +1,8 @@
 -- `clause_buffer::write_level` meets its contract. The invariant: the clauses of the values before j are in, and those from j on are left. The measure is the
 -- number of values left. Assumes nothing.
-use borrow.Author.Rules.{rules}
-use Prim.Native.Nat.{suc, ◌-◌}
 use native.Mathlib.Omega.{arith}
-use Rattle.clause.specs.Meaning.{words_of}
-use Rattle.encoding.specs.Pattern.{order_of}
-use Rattle.clause_buffer.proofs.Writing.{WordsLeft, words_left_all, words_left_room, words_left_less, words_left_none}
-use Rattle.clause_buffer.proofs.Turns.{order_left, order_all, order_turn, order_none}
+use Rattle.clause_buffer.proofs.Writing.{words_left_all, words_left_room, words_left_less, words_left_none}
+use Rattle.clause_buffer.proofs.Turns.{order_all, order_turn, order_none}
 use Rattle.clause_buffer.proofs.write_level.Goals as goal
 
 pub values-init : goal.values-init

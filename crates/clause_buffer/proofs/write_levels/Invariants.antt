@@ -1,17 +1,14 @@
 -- `clause_buffer::write_levels` meets its contract. The invariant: the clauses of the levels before i are in, and those from i on are left. The measure is the
 -- number of levels left. Assumes nothing.
-use borrow.Author.Rules.{rules}
-use mathlib.Core.Path.{refl}
 use Prim.Native.Nat.{◌+◌, ◌-◌, ◌≤◌}
-use native.Mathlib.Omega.{arith}
 use lib.ListN.{length, drop}
 use Rattle.word.specs.Word.{last_boolean}
 use Rattle.clause.specs.Meaning.{words_of}
 use Rattle.encoding.specs.Pattern.{orders_of}
 use Rattle.encoding.specs.Boolean.{orders}
 use Rattle.clause_buffer.specs.Ended.{ended}
-use Rattle.clause_buffer.proofs.Writing.{WordsLeft, words_left_all, words_left_room, words_left_less, words_left_none}
-use Rattle.clause_buffer.proofs.Turns.{levels_left, levels_turn, levels_none, orders_turn}
+use Rattle.clause_buffer.proofs.Writing.{WordsLeft}
+use Rattle.clause_buffer.proofs.Turns.{levels_left}
 use Rattle.clause_buffer.proofs.write_levels.Given as goal
 
 abbrev pub invariant-levels : goal.invariant-levels

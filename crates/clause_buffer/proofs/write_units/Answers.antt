@@ -1,6 +1,5 @@
 -- `clause_buffer::write_units` meets its contract: three clauses, one behind the other.
 -- Assumes nothing.
-use borrow.Author.Rules.{rules}
 use mathlib.Core.Path.{ap, ◌∙◌}
 use mathlib.Core.Bool.{true, false}
 use Rattle.word.specs.Word.{literal_word}

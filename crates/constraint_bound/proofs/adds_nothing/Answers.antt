@@ -1,5 +1,4 @@
 -- `constraint_bound::adds_nothing` meets its contract. Assumes nothing.
-use borrow.Author.Rules.{rules}
 use Rattle.constraint_bound.proofs.adds_nothing.Goals as goal
 
 pub returns : goal.returns

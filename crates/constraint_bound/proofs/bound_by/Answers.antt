@@ -1,10 +1,8 @@
 -- `constraint_bound::bound_by` meets its contract: each relation's two sums differ by its bound. Assumes nothing.
-use borrow.Author.Tests.{not-true, not-false}
 use mathlib.Core.Path.{sym, ◌∙◌}
 use native.Mathlib.Omega.{arith}
 use Rattle.constraint_words.proofs.Items.{related_long}
 use Rattle.constraint_bound.proofs.Shifting.{bound_plain, bound_0, bound_1, bound_2, bound_3}
-use borrow.Author.Rules.{rules}
 use Rattle.constraint_bound.proofs.bound_by.Goals as goal
 
 pub returns-then-not-has_relation : goal.returns-then-not-has_relation

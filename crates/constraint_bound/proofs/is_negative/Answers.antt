@@ -1,5 +1,4 @@
 -- `constraint_bound::is_negative` meets its contract. Assumes nothing.
-use borrow.Author.Rules.{rules}
 use Rattle.constraint_bound.proofs.is_negative.Goals as goal
 
 pub returns-then-turned : goal.returns-then-turned

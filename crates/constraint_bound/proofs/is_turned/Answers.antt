@@ -3,7 +3,6 @@ use mathlib.Core.Path.{sym, ◌∙◌, ap}
 use lib.Dec.{leb}
 use Rattle.constraint_words.proofs.Items.{related_long}
 use Rattle.constraint_bound.proofs.Shifting.{turned_given, turned_plain}
-use borrow.Author.Rules.{rules}
 use Rattle.constraint_bound.proofs.is_turned.Goals as goal
 
 pub bounds-words-1 : goal.bounds-words-1

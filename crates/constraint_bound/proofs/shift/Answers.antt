@@ -1,7 +1,6 @@
 -- `constraint_bound::shift` meets its contract: the products fit, and differ by the shift. Assumes nothing.
 use native.Mathlib.Omega.{arith}
 use Rattle.constraint_bound.proofs.Shifting.{up_fits, down_fits, shift_up, shift_down}
-use borrow.Author.Rules.{rules}
 use Rattle.constraint_bound.proofs.shift.Goals as goal
 
 pub overflow_mul-result : goal.overflow_mul-result

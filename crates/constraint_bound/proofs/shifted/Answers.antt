@@ -1,7 +1,6 @@
 -- `constraint_bound::shifted` meets its contract: a plain term adds nothing, any other its shift. Assumes nothing.
 use mathlib.Core.Path.{sym, ◌∙◌}
 use Rattle.constraint_bound.proofs.Shifting.{shifted_plain}
-use borrow.Author.Rules.{rules}
 use Rattle.constraint_bound.proofs.shifted.Goals as goal
 
 pub returns-then-adds_nothing : goal.returns-then-adds_nothing

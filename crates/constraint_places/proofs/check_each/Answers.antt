@@ -1,11 +1,8 @@
 -- `constraint_places::check_each` meets its contract. The loop's invariant: the check of the lower ends from `at` on is that of all. The
 -- measure is the number of words left. Assumes nothing.
-use mathlib.Core.Path.{◌≡◌, refl, sym, ◌∙◌}
-use Prim.Native.Nat.{◌-◌}
+use mathlib.Core.Path.{sym, ◌∙◌}
 use native.Mathlib.Omega.{arith}
-use borrow.Author.Rules.{rules}
-use lib.ListN.{length, drop}
-use Rattle.constraint_words.specs.Reading.{each_from, lower_checked}
+use Rattle.constraint_words.specs.Reading.{lower_checked}
 use Rattle.constraint_words.proofs.Checking.{each_passed, each_refused, each_end}
 use Rattle.constraint_places.proofs.check_each.Goals as goal
 

@@ -3,7 +3,6 @@ use native.Mathlib.Omega.{arith}
 use borrow.Author.Tests.{eq-eqb, ne_eqb}
 use Rattle.word.specs.Word.{kind, payload}
 use Rattle.constraint_words.proofs.Checking.{near, far_below, far_above}
-use borrow.Author.Rules.{rules}
 use Rattle.constraint_places.proofs.check_lower.Goals as goal
 
 pub returns-then-kind_of-ne2 : goal.returns-then-kind_of-ne2

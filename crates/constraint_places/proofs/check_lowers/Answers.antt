@@ -3,7 +3,6 @@ use mathlib.Core.Path.{sym}
 use native.Mathlib.Omega.{arith}
 use lib.ListN.{drop, length-drop}
 use Rattle.constraint_words.proofs.Items.{no_lowers}
-use borrow.Author.Rules.{rules}
 use Rattle.constraint_places.proofs.check_lowers.Goals as goal
 
 pub returns-then-terms-words : goal.returns-then-terms-words

@@ -1,12 +1,9 @@
 -- `constraint_words::count_terms` meets its contract. The loop's invariant: the terms counted and those from `at` on are all. The measure is the number of
 -- words left. Assumes nothing.
 use mathlib.Core.Path.{◌≡◌}
-use mathlib.Core.Logic.{⊎_elim}
 use Prim.Native.Nat.{◌-◌, ◌+◌, ◌≤◌}
-use native.Mathlib.Omega.{arith}
-use borrow.Author.Rules.{rules}
 use lib.ListN.{length, drop}
-use Rattle.constraint_words.proofs.Items.{term_count, count_past_lower, count_past_term, count_end}
+use Rattle.constraint_words.proofs.Items.{term_count}
 use Rattle.constraint_words.proofs.count_terms.Given as goal
 
 abbrev pub invariant-words : goal.invariant-words

@@ -1,12 +1,6 @@
 -- `constraint_words::count_unsigned` meets its contract. The loop's invariant: the words counted and those from `at` on are all. The measure is the number of words
 -- left. Assumes nothing.
-use mathlib.Core.Path.{◌≡◌}
-use mathlib.Core.Logic.{⊎_elim}
-use Prim.Native.Nat.{◌-◌, ◌+◌, ◌≤◌}
 use native.Mathlib.Omega.{arith}
-use borrow.Author.Rules.{rules}
-use lib.ListN.{length, drop}
-use Rattle.constraint_words.specs.Plain.{unsigned_in}
 use Rattle.constraint_words.proofs.Plain.{unsigned_past, unsigned_other, unsigned_end}
 use Rattle.constraint_words.proofs.count_unsigned.Goals as goal
 use Rattle.constraint_words.proofs.count_unsigned.Goals.{else-words-at-eq2, then-words-at-eq2}

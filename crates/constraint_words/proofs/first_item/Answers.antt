@@ -1,5 +1,4 @@
 -- `constraint_words::first_item` meets its contract. Assumes nothing.
-use borrow.Author.Rules.{rules}
 use Rattle.constraint_words.proofs.first_item.Goals as goal
 
 pub returns-then-has_relation : goal.returns-then-has_relation

@@ -5,7 +5,6 @@ use borrow.Author.Tests.{le-ltb}
 use lib.Dec.{eqb}
 use lib.ListN.{length, get_or-eq_default}
 use Prim.Native.Nat.{ℕ}
-use borrow.Author.Rules.{rules}
 use Rattle.constraint_words.proofs.has_relation.Goals as goal
 
 pub returns-then-words-gt1 : goal.returns-then-words-gt1

@@ -5,7 +5,6 @@ use native.Mathlib.Omega.{arith}
 use lib.Dec.{eqb}
 use lib.ListN.{length, drop, length-drop}
 use Rattle.constraint_words.proofs.Plain.{unsigned_most}
-use borrow.Author.Rules.{rules}
 use Rattle.constraint_words.proofs.is_plain.Goals as goal
 
 pub overflow_add-result : goal.overflow_add-result

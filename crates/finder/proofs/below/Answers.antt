@@ -1,6 +1,5 @@
 -- `finder::below` meets its contract: the keys are compared. Assumes nothing.
 use mathlib.Core.Path.{refl}
-use borrow.Author.Rules.{rules}
 use Rattle.finder.proofs.below.Goals as goal
 
 pub returns : goal.returns

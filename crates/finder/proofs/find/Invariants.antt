@@ -1,15 +1,10 @@
 -- `finder::find` meets its contract. The loop's invariant: the reply is what the definition gives from record k on, and the gap of the records before
 -- is counted. The measure is the number of records left. Assumes nothing.
-use borrow.Author.Rules.{rules}
 use Prim.Native.Nat.{◌-◌, ◌/◌, ◌≤◌}
-use native.Mathlib.Omega.{arith}
-use mathlib.Core.Path.{◌≡◌, refl}
+use mathlib.Core.Path.{◌≡◌}
 use lib.ListN.{length}
 use Rattle.word.specs.Record.{records, record_words}
-use Rattle.word.proofs.Flat.{records_length}
-use Rattle.word.proofs.Giving.{gives}
-use Rattle.finder.specs.Find.{found_values}
-use Rattle.finder.proofs.Laws.{Past, past_start, past_within, find_hit, find_miss, find_end}
+use Rattle.finder.proofs.Laws.{Past}
 use Rattle.finder.proofs.find.Given as goal
 
 abbrev pub invariant-loop-k : goal.invariant-loop-k

@@ -2,7 +2,6 @@
 use mathlib.Core.Path.{sym, ◌∙◌}
 use Rattle.constraint_words.proofs.Limits.{checked_as}
 use Rattle.marker.proofs.Stated.{mark_refused, mark_passed}
-use borrow.Author.Rules.{rules}
 use Rattle.marker.proofs.mark.Goals as goal
 
 pub make-requires : goal.make-requires

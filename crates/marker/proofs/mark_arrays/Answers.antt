@@ -1,7 +1,6 @@
 -- `marker::mark_arrays` meets its contract: the parts of the arrays that are lent on are as long as asked. Assumes nothing.
 use native.Mathlib.Omega.{arith}
 use lib.ListN.{length-take}
-use borrow.Author.Rules.{rules}
 use Rattle.marker.proofs.mark_arrays.Goals as goal
 
 pub slice_bounds-mark_levels-end : goal.slice_bounds-mark_levels-end

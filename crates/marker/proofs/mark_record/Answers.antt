@@ -4,7 +4,6 @@ use Rattle.limits.specs.Limits.{main_limits}
 use Rattle.constraint_words.proofs.Laws.{checked_within}
 use Rattle.constraint.proofs.Arrays.{arrays}
 use Rattle.marker.proofs.Stated.{judged_stated, judged_below}
-use borrow.Author.Rules.{rules}
 use Rattle.marker.proofs.mark_record.Goals as goal
 
 pub mark_arrays-requires : goal.mark_arrays-requires

@@ -1,6 +1,5 @@
 -- `search_ordered::find_from` meets its contract, by those of the test and of the gap, wherever the guesses lie. Assumes nothing.
 use mathlib.Core.Path.{sym, ◌∙◌}
-use borrow.Author.Rules.{rules}
 use Rattle.search_ordered.proofs.Search.{hits_reply}
 use Rattle.search_ordered.proofs.find_from.Goals as goal
 

@@ -1,6 +1,5 @@
 -- `search_ordered::find_near` meets its contract: the record that holds the remainder, or else the reply by way of the gap. Assumes nothing.
 use mathlib.Core.Path.{sym, ◌∙◌}
-use borrow.Author.Rules.{rules}
 use Rattle.search_ordered.proofs.Search.{hits_reply}
 use Rattle.search_ordered.proofs.find_near.Goals as goal
 

@@ -1,5 +1,4 @@
 -- `search_ordered::gap` meets its contract: the search without branches where the levels are low, and by halves where not. Assumes nothing.
-use borrow.Author.Rules.{rules}
 use Rattle.search_ordered.proofs.gap.Goals as goal
 
 pub gap_low-requires : goal.gap_low-requires

@@ -4,9 +4,8 @@ use borrow.Author.Rules.{rules}
 use Prim.Native.Nat.{ℕ, ◌+◌, ◌-◌, ◌/◌, ◌≤◌, ◌<◌}
 use native.Mathlib.Omega.{arith}
 use mathlib.Core.Path.{sym}
-use Rattle.word.specs.Record.{labelled}
 use Rattle.word.proofs.Labels.{labelled_length}
-use Rattle.search_ordered.proofs.Search.{Bracket, bracket_start, bracket_up, bracket_down, bracket_met, words_below}
+use Rattle.search_ordered.proofs.Search.{bracket_start, bracket_up, bracket_down, bracket_met, words_below}
 use Rattle.search_ordered.proofs.gap_any.Goals as goal
 
 pub loop-lo-init : goal.loop-lo-init

@@ -1,12 +1,8 @@
 -- `search_ordered::gap_any` meets its contract. The loop's invariant: the records before lo lie before the remainder and those from hi on do not. The
 -- measure is the number of records between. Assumes nothing.
-use borrow.Author.Rules.{rules}
-use Prim.Native.Nat.{ℕ, ◌+◌, ◌-◌, ◌/◌, ◌≤◌, ◌<◌}
-use native.Mathlib.Omega.{arith}
-use mathlib.Core.Path.{sym}
+use Prim.Native.Nat.{◌-◌, ◌≤◌}
 use Rattle.word.specs.Record.{labelled}
-use Rattle.word.proofs.Labels.{labelled_length}
-use Rattle.search_ordered.proofs.Search.{Bracket, bracket_start, bracket_up, bracket_down, bracket_met, words_below}
+use Rattle.search_ordered.proofs.Search.{Bracket}
 use Rattle.search_ordered.proofs.gap_any.Given as goal
 
 abbrev pub invariant-loop-lo : goal.invariant-loop-lo

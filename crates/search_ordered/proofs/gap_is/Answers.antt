@@ -3,7 +3,7 @@ use mathlib.Core.Path.{sym, ◌∙◌}
 use mathlib.Core.Bool.{true≢false}
 use native.Mathlib.Omega.{arith}
 use borrow.Author.Rules.{rules}
-use borrow.Author.Tests.{not-true, not-false}
+use borrow.Author.Tests.{not-true}
 use Rattle.word.proofs.Labels.{labelled_length}
 use Rattle.search_ordered.proofs.Search.{bracket_from, bracket_down, bracket_met, words_below}
 use Rattle.search_ordered.proofs.gap_is.Goals as goal

@@ -1,7 +1,7 @@
 -- `search_ordered::gap_low` meets its contract. The loop's invariant: the gap is at least p and at most `left` more; each turn leaves at most half of
 -- them. Assumes nothing.
 use native.Mathlib.Omega.{arith}
-use Prim.Native.Nat.{ℕ, ◌+◌, ◌-◌, ◌/◌, ◌≤◌}
+use Prim.Native.Nat.{ℕ, ◌+◌, ◌-◌, ◌/◌}
 use mathlib.Core.Path.{◌≡◌, refl, sym, subst}
 use borrow.Author.Rules.{rules}
 use Rattle.word.specs.Record.{labelled}

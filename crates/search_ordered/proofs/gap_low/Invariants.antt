@@ -1,12 +1,8 @@
 -- `search_ordered::gap_low` meets its contract. The loop's invariant: the gap is at least p and at most `left` more; each turn leaves at most half of
 -- them. Assumes nothing.
-use native.Mathlib.Omega.{arith}
-use Prim.Native.Nat.{ℕ, ◌+◌, ◌-◌, ◌/◌, ◌≤◌}
-use mathlib.Core.Path.{◌≡◌, refl, sym, subst}
-use borrow.Author.Rules.{rules}
+use Prim.Native.Nat.{◌+◌, ◌≤◌}
 use Rattle.word.specs.Record.{labelled}
-use Rattle.word.proofs.Labels.{labelled_length}
-use Rattle.search_ordered.proofs.Search.{Bracket, bracket_start, bracket_half, bracket_met, bit_times, words_low, words_upper, words_bit}
+use Rattle.search_ordered.proofs.Search.{Bracket}
 use Rattle.search_ordered.proofs.gap_low.Given as goal
 
 abbrev pub invariant-loop-left : goal.invariant-loop-left

@@ -3,7 +3,6 @@ use mathlib.Core.Path.{refl}
 use lib.ListN.{length}
 use borrow.Author.Tests.{lt-ltb, le-ltb}
 use native.Mathlib.Omega.{arith}
-use borrow.Author.Rules.{rules}
 use Rattle.word.specs.Record.{labelled}
 use Rattle.word.proofs.Labels.{labelled_length, labelled_at}
 use Rattle.search_ordered.proofs.hit.Goals as goal

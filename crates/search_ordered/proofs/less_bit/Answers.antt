@@ -1,5 +1,4 @@
 -- `search_ordered::less_bit` meets its contract: the highest bit of the difference is set where the first number is the less. Assumes nothing.
-use borrow.Author.Rules.{rules}
 use Rattle.search_ordered.proofs.Search.{bit_law}
 use Rattle.search_ordered.proofs.less_bit.Goals as goal
 

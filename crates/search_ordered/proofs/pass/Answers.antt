@@ -1,7 +1,6 @@
 -- `search_ordered::pass` keeps within the table, and goes past at most n records: the bit is at most 1. Assumes nothing.
 use Prim.Native.Nat.{◌+◌, ◌-◌}
 use native.Mathlib.Omega.{arith}
-use borrow.Author.Rules.{rules}
 use Rattle.word.specs.Record.{record_at}
 use Rattle.search_ordered.proofs.Search.{bit_times}
 use Rattle.search_ordered.proofs.pass.Goals as goal

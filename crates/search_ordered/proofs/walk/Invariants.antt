@@ -1,5 +1,4 @@
 -- `search_ordered::walk` keeps within the table, and ends: the measure is the number of records that may still be passed. Assumes nothing.
-use borrow.Author.Rules.{rules}
 use Rattle.search_ordered.proofs.walk.Given as goal
 
 abbrev pub invariant-loop-left : goal.invariant-loop-left

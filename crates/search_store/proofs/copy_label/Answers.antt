@@ -1,5 +1,4 @@
 -- `search_store::copy_label` meets its contract: the words that are read are the label. Assumes nothing.
-use borrow.Author.Rules.{rules}
 use Rattle.search_store.proofs.Stored.{words_at}
 use Rattle.search_store.proofs.copy_label.Goals as goal
 

@@ -1,5 +1,4 @@
 -- `search_store::insert` meets its contract: the label fills the room that `make_room` leaves. Assumes nothing.
-use borrow.Author.Rules.{rules}
 use Rattle.word.specs.Record.{label_from}
 use Rattle.search_store.proofs.Insertion.{insert_leaves}
 use Rattle.search_store.proofs.insert.Goals as goal

@@ -1,10 +1,7 @@
 -- `search_store::make_room` meets its contract. The loop's invariant: the labels from i on are moved. The measure is the number of labels left.
 -- Assumes nothing.
-use mathlib.Core.Path.{◌≡◌, subst}
-use Prim.Native.Nat.{ℕ, ◌-◌, ◌≤◌}
-use native.Mathlib.Omega.{arith}
+use Prim.Native.Nat.{◌-◌, ◌≤◌}
 use Rattle.search_store.specs.Stored.{Raised}
-use Rattle.search_store.proofs.Insertion.{raise_start, raise_turn}
 use Rattle.search_store.proofs.make_room.Given as goal
 
 abbrev pub invariant-loop-i : goal.invariant-loop-i

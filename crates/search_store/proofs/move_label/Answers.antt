@@ -1,5 +1,4 @@
 -- `search_store::move_label` meets its contract: the words that are read are the label, and the next word is no part of one. Assumes nothing.
-use borrow.Author.Rules.{rules}
 use Rattle.search_store.proofs.Stored.{words_at, first_stored}
 use Rattle.search_store.proofs.move_label.Goals as goal
 

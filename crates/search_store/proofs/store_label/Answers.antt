@@ -1,5 +1,4 @@
 -- `search_store::store_label` meets its contract, by the law of a label's stores. Assumes nothing.
-use borrow.Author.Rules.{rules}
 use native.Mathlib.Omega.{arith}
 use lib.ListN.{length-set}
 use Rattle.search_store.proofs.Stored.{label_stored}

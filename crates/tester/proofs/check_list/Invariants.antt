@@ -1,12 +1,9 @@
 -- `tester::check_list` meets its contract. The loop's invariant: the words before `at` pass and leave `count` literals without an end word, so the check
 -- is what the definition gives from there on. The measure is the number of words left. Assumes nothing.
-use borrow.Author.Rules.{rules}
-use native.Mathlib.Omega.{arith}
 use Prim.Native.Nat.{◌-◌, ◌≤◌}
-use mathlib.Core.Path.{◌≡◌, refl, sym, ◌∙◌}
+use mathlib.Core.Path.{◌≡◌}
 use lib.ListN.{length, drop}
 use Rattle.clause.specs.Check.{list_from}
-use Rattle.tester.proofs.Checks.{end_good, end_bad, kind_bad, literal_zero, literal_beyond, literal_good, words_good, words_bad}
 use Rattle.tester.proofs.check_list.Given as goal
 
 abbrev pub invariant-words : goal.invariant-words

@@ -1,12 +1,9 @@
 -- `tester::check_values` meets its contract. The loop's invariant: the bytes before `at` pass, so the check is what the definition gives from there on.
 -- The measure is the number of bytes left. Assumes nothing.
-use borrow.Author.Rules.{rules}
-use native.Mathlib.Omega.{arith}
 use Prim.Native.Nat.{◌-◌, ◌≤◌}
-use mathlib.Core.Path.{◌≡◌, refl, sym, ◌∙◌}
+use mathlib.Core.Path.{◌≡◌}
 use lib.ListN.{length, drop}
 use Rattle.tester.specs.Tested.{values_from}
-use Rattle.tester.proofs.Checks.{value_good, value_bad, values_end}
 use Rattle.tester.proofs.check_values.Given as goal
 
 abbrev pub invariant-bytes : goal.invariant-bytes

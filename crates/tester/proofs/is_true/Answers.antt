@@ -1,5 +1,4 @@
 -- `tester::is_true` meets its contract: the Boolean's value, turned round where the word is negated. Assumes nothing.
-use borrow.Author.Rules.{rules}
 use mathlib.Core.Path.{ap, ◌∙◌}
 use Rattle.tester.specs.Tested.{value_in}
 use Rattle.tester.proofs.Values.{true_negated, true_plain}

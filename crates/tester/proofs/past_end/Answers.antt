@@ -1,11 +1,7 @@
 -- `tester::past_end_lem` meets its contract. The loop's invariant: no end word stands before `at`, so the place is what the definition gives from there on.
 -- The measure is the number of words left. Assumes nothing.
-use borrow.Author.Rules.{rules}
 use native.Mathlib.Omega.{arith}
-use Prim.Native.Nat.{◌-◌, ◌≤◌}
-use mathlib.Core.Path.{◌≡◌, sym, ◌∙◌}
-use lib.ListN.{length, drop}
-use Rattle.tester.specs.Past.{past_end}
+use mathlib.Core.Path.{sym, ◌∙◌}
 use Rattle.tester.proofs.Scan.{past_here, past_on, past_none}
 use Rattle.tester.proofs.past_end.Goals as goal
 
@@ -16,13 +12,12 @@ returns-then-w-ge-LEAST_END c =
     ∙ past_here c.args.words.now c.skip.at (omega arith) (omega (arith, c.shared_slice_known-1.given c.skip.at)))
 
 pub skip-preserved : goal.skip-preserved
-skip-preserved c =
-    (
-      omega arith,
-      omega arith,
-      c.skip.invariant.2
-          ∙ past_on c.args.words.now c.skip.at (omega arith) (λ e. omega (arith, e)),
-    )
+skip-preserved c = (
+  omega arith,
+  omega arith,
+  c.skip.invariant.2
+      ∙ past_on c.args.words.now c.skip.at (omega arith) (λ e. omega (arith, e)),
+)
 
 pub returns : goal.returns
 returns c = sym (c.skip.invariant.2 ∙ past_none c.args.words.now c.skip.at (omega arith))

@@ -1,12 +1,9 @@
 -- `tester::past_end_lem` meets its contract. The loop's invariant: no end word stands before `at`, so the place is what the definition gives from there on.
 -- The measure is the number of words left. Assumes nothing.
-use borrow.Author.Rules.{rules}
-use native.Mathlib.Omega.{arith}
 use Prim.Native.Nat.{◌-◌, ◌≤◌}
-use mathlib.Core.Path.{◌≡◌, sym, ◌∙◌}
+use mathlib.Core.Path.{◌≡◌}
 use lib.ListN.{length, drop}
 use Rattle.tester.specs.Past.{past_end}
-use Rattle.tester.proofs.Scan.{past_here, past_on, past_none}
 use Rattle.tester.proofs.past_end.Given as goal
 
 abbrev pub invariant-skip : goal.invariant-skip

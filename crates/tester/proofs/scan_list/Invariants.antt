@@ -1,14 +1,12 @@
 -- `tester::scan_list` meets its contract. The invariants: the clauses before this one are true, and, inside a clause, its literals before `at` are not;
 -- so the reply is what the definition gives from there on. Both measures are the number of words left. Assumes nothing.
-use borrow.Author.Rules.{rules}
-use native.Mathlib.Omega.{arith}
-use Prim.Native.Nat.{◌+◌, ◌-◌, ◌≤◌}
-use mathlib.Core.Path.{◌≡◌, refl, sym, ◌∙◌}
+use Prim.Native.Nat.{◌-◌, ◌≤◌}
+use mathlib.Core.Path.{◌≡◌}
 use lib.ListN.{length, drop}
 use Rattle.clause.specs.Meaning.{clauses_of}
 use Rattle.tester.specs.declared.Tested.TheVariants.{AllTrue}
 use Rattle.tester.specs.Tested.{value_in, scan}
-use Rattle.tester.proofs.Scan.{inside, scan_none, inside_none, scan_begin, scan_lacking, scan_false, scan_true, past_drop}
+use Rattle.tester.proofs.Scan.{inside}
 use Rattle.tester.proofs.scan_list.Given as goal
 
 abbrev pub invariant-literals : goal.invariant-literals

@@ -1,5 +1,4 @@
 -- `tester::test` meets its contract: each arm knows what the checks before it found, and the reply follows from that. Assumes nothing.
-use borrow.Author.Rules.{rules}
 use mathlib.Core.Path.{sym, ◌∙◌}
 use Rattle.word.proofs.Giving.{gives}
 use Rattle.tester.specs.Tested.{tested_values}

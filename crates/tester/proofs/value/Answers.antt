@@ -1,5 +1,4 @@
 -- `tester::value` meets its contract: Boolean 0 and those past the bytes are false, and any other is read from its byte. Assumes nothing.
-use borrow.Author.Rules.{rules}
 use native.Mathlib.Omega.{arith}
 use Rattle.tester.proofs.Values.{value_at_lem, value_out}
 use Rattle.tester.proofs.value.Goals as goal

@@ -1,6 +1,6 @@
 -- `text::digits`, which calls itself for the tenth, meets its contract: a number has one digit more than its tenth. The measure is the number. Assumes nothing.
 use native.Mathlib.Omega.{arith}
-use Prim.Native.Nat.{ℕ, ◌/◌, ◌<◌}
+use Prim.Native.Nat.{◌/◌}
 use Rattle.text.proofs.Decimals.{digits_one, digits_more, digits_few}
 use Rattle.text.proofs.+digits.Goals as goal
 

@@ -1,11 +1,9 @@
 -- `text::put_number`, which calls itself for the tenth, meets its contract: the last digit stands behind those of the tenth. The measure is the number.
 -- Assumes nothing.
-use borrow.Author.Rules.{rules}
 use native.Mathlib.Omega.{arith}
 use mathlib.Core.Path.{sym}
 use Rattle.text.proofs.Cuts.{wrote_as, wrote_then}
 use Rattle.text.proofs.Decimals.{decimal_one, decimal_more}
-use Prim.Native.Nat.{ℕ, ◌<◌}
 use Rattle.text.proofs.+put_number.Goals as goal
 
 pub returns-then-n-lt10 : goal.returns-then-n-lt10

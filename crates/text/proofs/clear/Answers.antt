@@ -1,9 +1,6 @@
 -- `text::clear` meets its contract: before the place nothing has changed, and from it up to the turn's index all is zero. Assumes nothing.
-use Prim.Native.Nat.{◌-◌}
 use native.Mathlib.Omega.{arith}
-use lib.ListN.{length}
-use borrow.Author.Rules.{rules}
-use Rattle.word.proofs.Cleared.{Clearing, clearing_starts, clearing_more, clearing_ends}
+use Rattle.word.proofs.Cleared.{clearing_starts, clearing_more, clearing_ends}
 use Rattle.text.proofs.clear.Goals as goal
 
 pub fill-init : goal.fill-init

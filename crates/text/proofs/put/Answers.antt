@@ -1,5 +1,4 @@
 -- `text::put` meets its contract: a store where there is room, and nothing where there is none. Assumes nothing.
-use borrow.Author.Rules.{rules}
 use Rattle.text.proofs.Cuts.{put_in, put_off}
 use Rattle.text.proofs.put.Goals as goal
 

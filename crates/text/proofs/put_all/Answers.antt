@@ -1,11 +1,9 @@
 -- `text::put_all` meets its contract. The invariant: the bytes before i are in, and those from i on are left. The measure is the number of bytes left.
 -- Assumes nothing.
-use borrow.Author.Rules.{rules}
 use mathlib.Core.Path.{refl}
-use Prim.Native.Nat.{◌-◌}
 use native.Mathlib.Omega.{arith}
-use lib.ListN.{length, drop, drop_of_length-le}
-use Rattle.text.proofs.Cuts.{Left, left_all, left_less, left_none}
+use lib.ListN.{drop_of_length-le}
+use Rattle.text.proofs.Cuts.{left_all, left_less, left_none}
 use Rattle.text.proofs.Decimals.{byte_turn}
 use Rattle.text.proofs.put_all.Goals as goal
 

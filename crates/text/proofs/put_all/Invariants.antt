@@ -1,12 +1,8 @@
 -- `text::put_all` meets its contract. The invariant: the bytes before i are in, and those from i on are left. The measure is the number of bytes left.
 -- Assumes nothing.
-use borrow.Author.Rules.{rules}
-use mathlib.Core.Path.{refl}
 use Prim.Native.Nat.{◌-◌}
-use native.Mathlib.Omega.{arith}
-use lib.ListN.{length, drop, drop_of_length-le}
-use Rattle.text.proofs.Cuts.{Left, left_all, left_less, left_none}
-use Rattle.text.proofs.Decimals.{byte_turn}
+use lib.ListN.{length, drop}
+use Rattle.text.proofs.Cuts.{Left}
 use Rattle.text.proofs.put_all.Given as goal
 
 abbrev pub invariant-bytes : goal.invariant-bytes

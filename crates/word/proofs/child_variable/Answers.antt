@@ -1,5 +1,4 @@
 -- `word::child_variable` meets its contract: in each arm the child is known, and the `requires` says that its Boolean fits. Assumes nothing.
-use borrow.Author.Rules.{rules}
 use native.Mathlib.Omega.{arith}
 use Rattle.word.proofs.child_variable.Goals as goal
 

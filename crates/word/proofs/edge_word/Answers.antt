@@ -1,5 +1,4 @@
 -- `word::edge_word` meets its contract: in each arm the child is known, and a node's number fits by the `requires`. Assumes nothing.
-use borrow.Author.Rules.{rules}
 use native.Mathlib.Omega.{arith}
 use Rattle.word.proofs.edge_word.Goals as goal
 

@@ -1,5 +1,4 @@
 -- `word::is_negated` meets its contract: the test is on what `payload_of` gives. Assumes nothing.
-use borrow.Author.Rules.{rules}
 use lib.Dec.{leb}
 use mathlib.Core.Path.{ap}
 use Rattle.word.proofs.is_negated.Goals as goal

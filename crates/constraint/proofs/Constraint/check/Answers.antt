@@ -1,5 +1,4 @@
 -- `constraint::Constraint::check` meets its contract. Assumes nothing.
-use borrow.Author.Rules.{rules}
 use Rattle.word.proofs.Giving.{gives}
 use Rattle.refusal.specs.Table.{checked_values}
 use Rattle.constraint_words.proofs.Limits.{checked_as}

@@ -8,7 +8,6 @@ use mathlib.Core.Bool.{false}
 use Rattle.constraint_words.specs.Reading.{placed_from}
 use Rattle.constraint_words.proofs.Items.{first_within}
 use Rattle.constraint_words.proofs.Checking.{checked_none, checked_first, checked_places, checked_items}
-use borrow.Author.Rules.{rules}
 use Rattle.constraint.proofs.Constraint.check_by.Goals as goal
 
 pub returns-then-words-eq0 : goal.returns-then-words-eq0

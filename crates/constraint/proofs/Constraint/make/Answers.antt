@@ -1,6 +1,5 @@
 -- `constraint::Constraint::make` meets its contract: plain words have a loop of their own. Assumes nothing.
 use mathlib.Core.Path.{sym, ◌∙◌}
-use borrow.Author.Rules.{rules}
 use Rattle.constraint.proofs.Constraint.make.Goals as goal
 
 pub make_plain-requires : goal.make_plain-requires

@@ -11,7 +11,6 @@ use Rattle.limits.specs.Limits.{term_limit}
 use Rattle.constraint_words.specs.Reading.{each_from, lower_checked, term_checked, terms_in, relation_checked}
 use Rattle.constraint_words.proofs.Items.{term_count}
 use Rattle.constraint_words.proofs.Checking.{up_to_in, up_to_below, up_to_above, first_two, first_one, relation_none, relation_few, items_17, items_18, items_3, items_terms}
-use borrow.Author.Rules.{rules}
 use Rattle.constraint.proofs.checking.check_items.Goals as goal
 use Rattle.constraint.proofs.checking.check_items.Goals.{else-first-eq2-via-then-first-eq2+else-payload_of-gt3, else-first-eq2-via-else-first-eq2}
 

@@ -8,7 +8,6 @@ use lib.ListN.{length}
 use Rattle.limits.specs.Limits.{term_limit}
 use Rattle.constraint_words.proofs.Checking.{up_to_in, up_to_below, up_to_above}
 use Rattle.constraint_words.proofs.Plain.{plain_count, plain_3, plain_terms}
-use borrow.Author.Rules.{rules}
 use Rattle.constraint.proofs.checking.check_plain.Goals as goal
 
 pub overflow_sub-terms : goal.overflow_sub-terms

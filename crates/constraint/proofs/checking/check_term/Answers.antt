@@ -5,7 +5,6 @@ use borrow.Author.Tests.{eq-eqb, ne_eqb, le-leb, lt-leb, ltb-true, ltb-false}
 use Rattle.diagram.specs.Constraint.{last_end}
 use Rattle.word.specs.Word.{kind, domain_end, coefficient}
 use Rattle.constraint_words.proofs.Checking.{up_to_in, up_to_below, up_to_above}
-use borrow.Author.Rules.{rules}
 use Rattle.constraint.proofs.checking.check_term.Goals as goal
 
 pub returns-then-kind_of-eq2 : goal.returns-then-kind_of-eq2

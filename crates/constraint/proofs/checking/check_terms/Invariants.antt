@@ -1,12 +1,9 @@
 -- `constraint::checking::check_terms` meets its contract. The loop's invariant: the check of the terms from `at` on is that of all. The
 -- measure is the number of words left. Assumes nothing.
-use mathlib.Core.Path.{◌≡◌, refl, sym, ◌∙◌}
+use mathlib.Core.Path.{◌≡◌}
 use Prim.Native.Nat.{◌-◌}
-use native.Mathlib.Omega.{arith}
-use borrow.Author.Rules.{rules}
 use lib.ListN.{length, drop}
 use Rattle.constraint_words.specs.Reading.{each_from, term_checked}
-use Rattle.constraint_words.proofs.Checking.{each_passed, each_refused, each_end}
 use Rattle.constraint.proofs.checking.check_terms.Given as goal
 
 abbrev pub invariant-terms : goal.invariant-terms

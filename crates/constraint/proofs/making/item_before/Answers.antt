@@ -4,7 +4,6 @@ use borrow.Author.Tests.{eq-eqb, ne_eqb}
 use lib.ListN.{get_or}
 use Prim.Native.Nat.{◌-◌}
 use Rattle.word.specs.Word.{kind}
-use borrow.Author.Rules.{rules}
 use Rattle.constraint.proofs.making.item_before.Goals as goal
 
 pub returns-then-kind_of-eq2 : goal.returns-then-kind_of-eq2

@@ -1,15 +1,13 @@
 -- `marker::records::mark_records` meets its contract. The loop's invariant: the judgement is what is left of it from record k on. The measure is the number of records left.
 -- Assumes nothing.
 use Prim.Native.Nat.{◌≤◌, ◌-◌, ◌/◌}
-use borrow.Author.Rules.{rules}
 use lib.ListN.{length}
 use mathlib.Core.Path.{◌≡◌}
-use borrow.Author.Tests.{not-true, not-false}
 use lib.IntN.{pos}
 use Rattle.word.specs.Record.{record_words, records}
 use Rattle.constraint.specs.Lent.{levels_of}
 use Rattle.marking.specs.Judged.{judged}
-use Rattle.marker.proofs.Judging.{judged_from, judging_starts, judging_ends, bad_place, bad_record, good_record}
+use Rattle.marker.proofs.Judging.{judged_from}
 use Rattle.marker.proofs.records.mark_records.Given as goal
 
 abbrev pub invariant-records : goal.invariant-records

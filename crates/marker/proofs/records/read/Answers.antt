@@ -1,5 +1,4 @@
 -- `marker::records::read` meets its contract: record k is the words from its place on. Assumes nothing.
-use borrow.Author.Rules.{rules}
 use Rattle.marker.proofs.Tests.{fields_at}
 use Rattle.marker.proofs.records.read.Goals as goal
 

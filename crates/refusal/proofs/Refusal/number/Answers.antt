@@ -1,5 +1,4 @@
 -- `refusal::Refusal::number` meets its contract: each arm gives the number of its row. Assumes nothing.
-use borrow.Author.Rules.{rules}
 use Rattle.refusal.proofs.Refusal.number.Goals as goal
 
 pub returns-in-NoWords : goal.returns-in-NoWords

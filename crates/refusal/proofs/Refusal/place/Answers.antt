@@ -1,5 +1,4 @@
 -- `refusal::Refusal::place` meets its contract: each arm gives the place of its row. Assumes nothing.
-use borrow.Author.Rules.{rules}
 use Rattle.refusal.proofs.Refusal.place.Goals as goal
 
 pub returns-in-WrongKind : goal.returns-in-WrongKind
