@@ -10,7 +10,7 @@ pub fn bytes_of(words: &[u32]) -> Vec<u8> {
 
 /// What the program of this name prints for these bytes.
 pub fn printed(name: &str, bytes: &[u8]) -> Vec<u8> {
-    let path = format!("target/bin/{name}");
+    let path = format!("crates/{name}/out/{name}");
     let mut child = Command::new(&path).stdin(Stdio::piped()).stdout(Stdio::piped()).spawn().expect(&path);
     // The program stops reading where the input is too long.
     let _ = child.stdin.take().unwrap().write_all(bytes);
