@@ -2,17 +2,16 @@
 -- levels left fall. Document 01 has the children left fall behind them; here the row is a loop, whose turns take one child each. Each answer is a step of
 -- building. Assumes nothing.
 use mathlib.Core.Path.{◌≡◌, refl, sym, subst, ◌∙◌}
-use Prim.Native.Nat.{ℕ, ◌+◌, ◌-◌, ◌*◌, ◌<◌}
+use Prim.Native.Nat.{ℕ, ◌+◌}
 use native.Mathlib.Omega.{arith}
 use lib.ListN.{length, get_or}
-use borrow.Author.Rules.{rules}
 use Rattle.word.specs.declared.Remainder.{Remainder}
 use Rattle.finder.proofs.Says.{nothing_missing}
 use Rattle.constraint.proofs.Slices.{rest_at, rests_count}
 use Rattle.builder_steps.specs.declared.Branch.TheVariants.{On}
 use Rattle.builder_steps.specs.Put.{Two}
 use Rattle.builder.specs.Built.{Good}
-use Rattle.builder.proofs.Steps.{small, product, ready_next, end_small, on_case, found_ok, row_missing, node_put_ok, moved_fits, Sofar, sofar_start, sofar_skip, sofar_node, sofar_full, sofar_end}
+use Rattle.builder.proofs.Steps.{small, product, ready_next, end_small, on_case, found_ok, row_missing, node_put_ok, moved_fits, sofar_start, sofar_skip, sofar_node, sofar_full, sofar_end}
 use Rattle.builder.proofs.+building.Goals as goal
 
 pub find_node-find-requires : goal.find_node-find-requires

@@ -2,7 +2,6 @@
 use Prim.Native.Nat.{◌<◌}
 use native.Mathlib.Omega.{arith}
 use lib.ListN.{get_or}
-use borrow.Author.Rules.{rules}
 use Rattle.constraint.proofs.Slices.{level_left}
 use Rattle.builder.proofs.Bounds.{none_found, top_first, start_good, root_done, root_short}
 use Rattle.builder.proofs.build.Goals as goal

@@ -1,6 +1,5 @@
 -- `builder_steps::child` meets its contract: each answer rewrites with the tests that led there. Assumes nothing.
 use borrow.Author.Tests.{lt-ltb, le-ltb, le-leb, lt-leb}
-use borrow.Author.Rules.{rules}
 use Rattle.builder_steps.proofs.child.Goals as goal
 
 pub returns-then-x-m : goal.returns-then-x-m

@@ -2,7 +2,6 @@
 use mathlib.Core.Path.{ap, ◌∙◌, sym}
 use Prim.Native.Nat.{ℕ}
 use Rattle.builder_steps.specs.Branch.{ends, cut_of}
-use borrow.Author.Rules.{rules}
 use Rattle.builder_steps.proofs.cut.Goals as goal
 
 pub returns-in-False : goal.returns-in-False

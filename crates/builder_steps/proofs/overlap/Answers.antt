@@ -1,5 +1,4 @@
 -- `builder_steps::overlap` meets its contract, by those of `larger` and `smaller`. Assumes nothing.
-use borrow.Author.Rules.{rules}
 use Rattle.builder_steps.proofs.overlap.Goals as goal
 
 pub returns : goal.returns

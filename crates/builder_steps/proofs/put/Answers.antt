@@ -2,7 +2,6 @@
 use mathlib.Core.Path.{refl, ◌∙◌}
 use native.Mathlib.Omega.{arith}
 use lib.ListN.{length}
-use borrow.Author.Rules.{rules}
 use Rattle.search_runs.proofs.Views.{settled_both}
 use Rattle.builder_steps.proofs.Settling.{settled_missing}
 use Rattle.builder_steps.proofs.put.Goals as goal

@@ -1,6 +1,5 @@
 -- `clause_writer::child_literal` meets its contract: the edge's end, its Boolean and the literal follow from the three callees.
 -- Assumes nothing.
-use borrow.Author.Rules.{rules}
 use Rattle.clause_writer.proofs.child_literal.Goals as goal
 
 pub child_variable-requires : goal.child_variable-requires

@@ -1,7 +1,6 @@
 -- `clause_writer::forward` meets its contract. The invariant: the sum is the number of order Booleans before level i. The measure is the number of
 -- levels left. Assumes nothing.
 use mathlib.Core.Path.{◌≡◌, ap, ◌∙◌}
-use Prim.Native.Nat.{◌-◌, ◌≤◌}
 use native.Mathlib.Omega.{arith}
 use Rattle.encoding.specs.Boolean.{orders_before}
 use Rattle.clause_buffer.specs.Ended.{ended}

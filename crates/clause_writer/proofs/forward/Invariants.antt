@@ -1,11 +1,9 @@
 -- `clause_writer::forward` meets its contract. The invariant: the sum is the number of order Booleans before level i. The measure is the number of
 -- levels left. Assumes nothing.
-use mathlib.Core.Path.{◌≡◌, ap, ◌∙◌}
+use mathlib.Core.Path.{◌≡◌}
 use Prim.Native.Nat.{◌-◌, ◌≤◌}
-use native.Mathlib.Omega.{arith}
 use Rattle.encoding.specs.Boolean.{orders_before}
 use Rattle.clause_buffer.specs.Ended.{ended}
-use Rattle.clause_writer.proofs.Turns.{before_next, before_fits}
 use Rattle.clause_writer.proofs.forward.Given as goal
 
 abbrev pub invariant-levels : goal.invariant-levels

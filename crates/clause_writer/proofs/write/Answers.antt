@@ -1,6 +1,5 @@
 -- `clause_writer::write` meets its contract: the three groups are written one behind the other, from what lent memory holds, which is the drawing.
 -- Assumes nothing.
-use borrow.Author.Rules.{rules}
 use mathlib.Core.Path.{sym}
 use native.Mathlib.Omega.{arith}
 use Rattle.clause_buffer.proofs.Writing.{wrote_words_as, wrote_words_then, room_first, room_then}

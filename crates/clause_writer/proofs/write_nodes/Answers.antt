@@ -1,14 +1,11 @@
 -- `clause_writer::write_nodes` meets its contract. The invariant: `earlier` is the number of order Booleans before the level that was last looked at; the clauses of
 -- the nodes before k are in, and those from k on are left. The measure is the number of nodes left. Assumes nothing.
-use borrow.Author.Rules.{rules}
-use mathlib.Core.Path.{◌≡◌, refl}
+use mathlib.Core.Path.{refl}
 use Prim.Native.Nat.{◌*◌, ◌+◌, ◌-◌}
 use native.Mathlib.Omega.{arith}
 use Rattle.word.specs.Record.{record_words, record_at, first_word}
-use Rattle.encoding.specs.Boolean.{orders_before}
-use Rattle.clause_buffer.specs.Ended.{ended}
-use Rattle.clause_buffer.proofs.Writing.{WordsLeft, words_left_all, words_left_room, words_left_less, words_left_none}
-use Rattle.clause_writer.proofs.Turns.{node_asked, nodes_left, nodes_turn, nodes_none}
+use Rattle.clause_buffer.proofs.Writing.{words_left_all, words_left_room, words_left_less, words_left_none}
+use Rattle.clause_writer.proofs.Turns.{node_asked, nodes_turn, nodes_none}
 use Rattle.clause_writer.proofs.write_nodes.Goals as goal
 
 pub nodes-init : goal.nodes-init

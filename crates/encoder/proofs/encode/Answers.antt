@@ -1,5 +1,4 @@
 -- `encoder::encode` meets its contract: the call with limits, given the main ones. Assumes nothing.
-use borrow.Author.Rules.{rules}
 use Rattle.encoder.proofs.Words.{promise_as}
 use Rattle.encoder.proofs.encode.Goals as goal
 

@@ -1,7 +1,6 @@
 -- `encoder::encode_arrays` meets its contract: the parts of the arrays that are lent on are as long as asked. Assumes nothing.
 use native.Mathlib.Omega.{arith}
 use lib.ListN.{length-take}
-use borrow.Author.Rules.{rules}
 use Rattle.encoder.proofs.encode_arrays.Goals as goal
 
 pub slice_bounds-encode_levels-end : goal.slice_bounds-encode_levels-end

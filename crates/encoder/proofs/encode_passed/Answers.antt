@@ -1,7 +1,6 @@
 -- `encoder::encode_passed` meets its contract: the answer is that of the constraint that the words state. Assumes nothing.
 use Rattle.constraint_words.proofs.Limits.{passed_main}
 use Rattle.encoder.proofs.Words.{promise}
-use borrow.Author.Rules.{rules}
 use Rattle.encoder.proofs.encode_passed.Goals as goal
 
 pub make-requires : goal.make-requires

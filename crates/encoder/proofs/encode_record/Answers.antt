@@ -4,7 +4,6 @@ use Rattle.constraint_words.specs.Reading.{stated}
 use Rattle.constraint_words.proofs.Laws.{checked_within}
 use Rattle.constraint.proofs.Arrays.{arrays, bound_held}
 use Rattle.encoder.proofs.Words.{answer_stated}
-use borrow.Author.Rules.{rules}
 use Rattle.encoder.proofs.encode_record.Goals as goal
 
 pub encode_arrays-requires : goal.encode_arrays-requires

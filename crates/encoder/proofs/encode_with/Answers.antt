@@ -1,7 +1,6 @@
 -- `encoder::encode_with` meets its contract: refused words touch nothing, and the others are encoded. Assumes nothing.
 use mathlib.Core.Path.{sym, ◌∙◌}
 use Rattle.encoder.proofs.Words.{promise_refused}
-use borrow.Author.Rules.{rules}
 use Rattle.encoder.proofs.encode_with.Goals as goal
 
 pub encode_passed-requires : goal.encode_passed-requires

@@ -5,7 +5,6 @@ use native.Mathlib.Omega.{arith}
 use Rattle.constraint_bound.proofs.Laws.{negative_is, natural_is}
 use Rattle.constraint.proofs.Slices.{rests_count, rest_at, rest_small}
 use Rattle.encoder_levels.proofs.Tables.{part_length, drawn_f, drawn_t, drawn_node, drawn_full}
-use borrow.Author.Rules.{rules}
 use Rattle.encoder_levels.proofs.draw.Goals as goal
 
 pub bounds-rests-0 : goal.bounds-rests-0

@@ -1,6 +1,5 @@
 -- `encoder_levels::encode_levels` meets its contract: what is drawn finds no room, or the lists are filled from it. Assumes nothing.
 use Rattle.encoder_levels.proofs.Tables.{bound_of_some, recounted, same_answer, full_answer}
-use borrow.Author.Rules.{rules}
 use Rattle.encoder_levels.proofs.encode_levels.Goals as goal
 
 pub finish-requires : goal.finish-requires

@@ -3,14 +3,13 @@ use mathlib.Core.Path.{ap, sym, ◌∙◌}
 use native.Mathlib.Omega.{arith}
 use Rattle.encoder_levels.specs.declared.Encoded.TheVariants.{Accepted}
 use Rattle.encoder_levels.proofs.Answers.{refuse_7, refuse_8, accept, refused_answer, accepted_answer, countable, ends_le, nodes_fit, counts_are, same_nodes, same_edges, same_words, roomy, renumbered}
-use borrow.Author.Rules.{rules}
 use Rattle.encoder_levels.proofs.finish.Goals as goal
 
 pub count-counts-requires : goal.count-counts-requires
 count-counts-requires c = record {
-      countable = countable c.requires.lent c.requires.tabled.1;
-      ends_len_bound = ends_le c.requires.lent c.requires.tabled.1;
-    }
+  countable = countable c.requires.lent c.requires.tabled.1;
+  ends_len_bound = ends_le c.requires.lent c.requires.tabled.1;
+}
 
 pub returns-then-edges-counts : goal.returns-then-edges-counts
 returns-then-edges-counts c =

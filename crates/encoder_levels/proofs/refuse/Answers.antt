@@ -1,7 +1,6 @@
 -- `encoder_levels::refuse` meets its contract: a list cleared from its start is all zeros. Assumes nothing.
 use mathlib.Core.Path.{refl, ◌∙◌}
 use Rattle.word.proofs.Cleared.{cleared_all}
-use borrow.Author.Rules.{rules}
 use Rattle.encoder_levels.proofs.refuse.Goals as goal
 
 pub returns : goal.returns

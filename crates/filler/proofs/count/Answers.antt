@@ -5,7 +5,6 @@ use lib.ListN.{length}
 use native.Mathlib.Omega.{arith}
 use Rattle.filler.specs.declared.Counts.{Counts}
 use Rattle.filler.proofs.Sums.{sum_small}
-use borrow.Author.Rules.{rules}
 use Rattle.filler.proofs.count.Goals as goal
 
 abbrev counts : ℕ → ℕ → ℕ → ℕ → Counts

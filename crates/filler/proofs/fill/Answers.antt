@@ -1,7 +1,6 @@
 -- `filler::fill` meets its contract: each pass hands on what the next needs, and what is written is cleared behind. Assumes nothing.
 use mathlib.Core.Path.{refl}
 use Rattle.filler.proofs.Passing.{finished, drawn, drawing, lists_filled}
-use borrow.Author.Rules.{rules}
 use Rattle.filler.proofs.fill.Goals as goal
 
 pub link-requires : goal.link-requires

@@ -1,5 +1,4 @@
 -- `linker::child` meets its contract: each test decides where the remainder leads, and else the finder's reply does. Assumes nothing.
-use borrow.Author.Rules.{rules}
 use native.Mathlib.Omega.{arith}
 use mathlib.Core.Path.{sym, ap, ◌∙◌}
 use Rattle.word.specs.Record.{labelled}

@@ -1,7 +1,7 @@
 -- `linker::clear_entering` meets its contract. The loop's invariant: nothing is counted at the first n nodes. The measure is the number of nodes left.
 -- Assumes nothing.
 use mathlib.Core.Path.{◌≡◌, refl, ap, ◌∙◌}
-use Prim.Native.Nat.{◌+◌, ◌-◌, ◌≤◌}
+use Prim.Native.Nat.{◌+◌}
 use native.Mathlib.Omega.{arith}
 use lib.ListN.{length}
 use Rattle.linker.specs.Counting.{unentered}

@@ -1,11 +1,9 @@
 -- `linker::clear_entering` meets its contract. The loop's invariant: nothing is counted at the first n nodes. The measure is the number of nodes left.
 -- Assumes nothing.
-use mathlib.Core.Path.{◌≡◌, refl, ap, ◌∙◌}
-use Prim.Native.Nat.{◌+◌, ◌-◌, ◌≤◌}
-use native.Mathlib.Omega.{arith}
+use mathlib.Core.Path.{◌≡◌}
+use Prim.Native.Nat.{◌-◌, ◌≤◌}
 use lib.ListN.{length}
 use Rattle.linker.specs.Counting.{unentered}
-use Rattle.linker.proofs.Counting.{none_length, none_next}
 use Rattle.linker.proofs.clear_entering.Given as goal
 
 abbrev pub invariant-loop-n : goal.invariant-loop-n

@@ -1,13 +1,6 @@
 -- `linker::sum_ends` meets its contract. The loop's invariant: the sum, with the ends of the records from k on, is the whole. The measure is the number of
 -- records left. Assumes nothing.
-use borrow.Author.Rules.{rules}
-use Prim.Native.Nat.{◌≤◌, ◌+◌, ◌*◌, ◌-◌}
 use native.Mathlib.Omega.{arith}
-use mathlib.Core.Path.{◌≡◌}
-use lib.ListN.{drop}
-use Rattle.word.specs.Record.{labelled}
-use Rattle.diagram.specs.Constraint.{last_end}
-use Rattle.linker.specs.Sum.{end_sum}
 use Rattle.linker.proofs.Turns.{one_end, sum_turn, sum_end}
 use Rattle.linker.proofs.sum_ends.Goals as goal
 

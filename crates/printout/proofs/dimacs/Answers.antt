@@ -1,5 +1,4 @@
 -- `printout::dimacs` meets its contract: the lists have the program's lengths, and the buffer is long enough for every text. Assumes nothing.
-use borrow.Author.Rules.{rules}
 use native.Mathlib.Omega.{arith}
 use Rattle.printout.proofs.Fits.{printed_whole, printed_clauses}
 use Rattle.printout.specs.declared.Form.TheVariants.{Clauses}

@@ -1,5 +1,4 @@
 -- `printout::print` meets its contract, by the two tests on the number of bytes; where both let the bytes pass, their words find room. Assumes nothing.
-use borrow.Author.Rules.{rules}
 use native.Mathlib.Omega.{arith}
 use Rattle.text.proofs.Cuts.{printed_inside, printed_count}
 use Rattle.printout.proofs.Input.{shows_long, shows_bad, shows_words}

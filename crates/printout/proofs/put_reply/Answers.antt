@@ -3,7 +3,6 @@ use mathlib.Core.Path.{sym, ap}
 use lib.Seq.{length-take-le}
 use Rattle.dimacs_text.specs.Written.{written}
 use Rattle.text.proofs.Cuts.{wrote_as}
-use borrow.Author.Rules.{rules}
 use Rattle.printout.proofs.put_reply.Goals as goal
 
 pub put_diagram-requires : goal.put_diagram-requires

@@ -1,5 +1,4 @@
 -- `printout::put_words` meets its contract: the encoder leaves the drawing of the stated constraint, and the text is printed from it. Assumes nothing.
-use borrow.Author.Rules.{rules}
 use mathlib.Core.Path.{ap}
 use Rattle.constraint_words.specs.Reading.{stated}
 use Rattle.encoder_levels.specs.declared.Encoded.{Encoded}

@@ -1,11 +1,10 @@
 -- `printout::words_of` meets its contract. The invariant: the first k words are in. The measure is the number of words that there is room for yet.
 -- Assumes nothing.
-use borrow.Author.Rules.{rules}
-use mathlib.Core.Path.{◌≡◌, refl}
-use Prim.Native.Nat.{◌*◌, ◌-◌, ◌/◌}
+use mathlib.Core.Path.{refl}
+use Prim.Native.Nat.{◌*◌}
 use native.Mathlib.Omega.{arith}
-use lib.ListN.{length, length-set}
-use Rattle.printout.proofs.Input.{word_at, Read, read_none, read_more, read_full, read_all}
+use lib.ListN.{length-set}
+use Rattle.printout.proofs.Input.{word_at, read_none, read_more, read_full, read_all}
 use Rattle.printout.proofs.words_of.Goals as goal
 
 pub words-init : goal.words-init

@@ -1,11 +1,9 @@
 -- `printout::words_of` meets its contract. The invariant: the first k words are in. The measure is the number of words that there is room for yet.
 -- Assumes nothing.
-use borrow.Author.Rules.{rules}
-use mathlib.Core.Path.{◌≡◌, refl}
-use Prim.Native.Nat.{◌*◌, ◌-◌, ◌/◌}
-use native.Mathlib.Omega.{arith}
-use lib.ListN.{length, length-set}
-use Rattle.printout.proofs.Input.{word_at, Read, read_none, read_more, read_full, read_all}
+use mathlib.Core.Path.{◌≡◌}
+use Prim.Native.Nat.{◌-◌, ◌/◌}
+use lib.ListN.{length}
+use Rattle.printout.proofs.Input.{Read}
 use Rattle.printout.proofs.words_of.Given as goal
 
 abbrev pub invariant-words : goal.invariant-words

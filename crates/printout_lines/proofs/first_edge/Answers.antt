@@ -3,7 +3,6 @@ use Prim.Native.Nat.{◌+◌, ◌*◌}
 use native.Mathlib.Omega.{arith}
 use Rattle.word.specs.Record.{record_words, first_word}
 use Rattle.printout_lines.proofs.Drawn.{first_is, past_is}
-use borrow.Author.Rules.{rules}
 use Rattle.printout_lines.proofs.first_edge.Goals as goal
 
 pub overflow_cast-result : goal.overflow_cast-result

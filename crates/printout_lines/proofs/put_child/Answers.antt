@@ -1,7 +1,6 @@
 -- `printout_lines::put_child` meets its contract: each end of an edge is put in as the definition has it. Assumes nothing.
 use mathlib.Core.Path.{◌≡◌, sym, ap, ◌∙◌}
 use Prim.Native.Nat.{ℕ}
-use borrow.Author.Rules.{rules}
 use Rattle.word.specs.declared.Child.{Child}
 use Rattle.word.specs.Edge.{edge_in, edge_of}
 use Rattle.text.proofs.Cuts.{wrote_as}

@@ -1,12 +1,9 @@
 -- `printout_lines::put_children` meets its contract. The invariant: the children before j are in, and those from j on are left. The measure is the number of
 -- children left. Assumes nothing.
-use borrow.Author.Rules.{rules}
-use mathlib.Core.Path.{refl}
 use Prim.Native.Nat.{◌-◌}
-use native.Mathlib.Omega.{arith}
 use lib.ListN.{length}
-use Rattle.text.proofs.Cuts.{Left, left_all, left_less, left_none, wrote_then}
-use Rattle.printout_lines.proofs.Turns.{child_text_left, child_text_turn, child_text_none}
+use Rattle.text.proofs.Cuts.{Left}
+use Rattle.printout_lines.proofs.Turns.{child_text_left}
 use Rattle.printout_lines.proofs.put_children.Given as goal
 
 abbrev pub invariant-children : goal.invariant-children

@@ -1,6 +1,5 @@
 -- `printout_lines::put_diagram` meets its contract: the line of the counts, and behind it the lines of the nodes. Assumes nothing.
 use Rattle.text.proofs.Cuts.{wrote_then}
-use borrow.Author.Rules.{rules}
 use Rattle.printout_lines.proofs.put_diagram.Goals as goal
 
 pub returns : goal.returns

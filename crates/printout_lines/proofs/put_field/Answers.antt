@@ -1,5 +1,4 @@
 -- `printout_lines::put_field` meets its contract: the number stands behind the space. Assumes nothing.
-use borrow.Author.Rules.{rules}
 use Rattle.text.proofs.Cuts.{wrote_then}
 use Rattle.printout_lines.proofs.put_field.Goals as goal
 

@@ -1,5 +1,4 @@
 -- `printout_lines::put_node` meets its contract: its pieces stand one behind the other. Assumes nothing.
-use borrow.Author.Rules.{rules}
 use Rattle.text.proofs.Cuts.{wrote_then}
 use Rattle.printout_lines.proofs.put_node.Goals as goal
 

@@ -1,14 +1,9 @@
 -- `printout_lines::put_nodes` meets its contract. The invariant, for every drawing that lies in the memory: the lines of the nodes before the next are in, and those from
 -- it on are left. The measure is the number of nodes left. Assumes nothing.
-use borrow.Author.Rules.{rules}
 use mathlib.Core.Path.{refl}
-use mathlib.Core.List.{List}
-use Prim.Native.Nat.{◌-◌}
 use native.Mathlib.Omega.{arith}
-use Rattle.diagram.specs.Table.{Node}
-use Rattle.printout_lines.specs.Lying.{Lying}
-use Rattle.text.proofs.Cuts.{Left, left_all, left_less, left_none}
-use Rattle.printout_lines.proofs.Drawn.{lines_left, places, lines_turn, lines_none}
+use Rattle.text.proofs.Cuts.{left_all, left_less, left_none}
+use Rattle.printout_lines.proofs.Drawn.{places, lines_turn, lines_none}
 use Rattle.printout_lines.proofs.put_nodes.Goals as goal
 
 pub nodes-init : goal.nodes-init
@@ -19,15 +14,15 @@ overflow_add-next c = omega (arith, c.requires.1.room)
 
 pub first_edge-first-requires : goal.first_edge-first-requires
 first_edge-first-requires c = record {
-      k_le_count = omega arith;
-      records_fit = c.requires.1.room;
-    }
+  k_le_count = omega arith;
+  records_fit = c.requires.1.room;
+}
 
 pub first_edge-past-requires : goal.first_edge-past-requires
 first_edge-past-requires c = record {
-      k_le_count = omega arith;
-      records_fit = c.requires.1.room;
-    }
+  k_le_count = omega arith;
+  records_fit = c.requires.1.room;
+}
 
 pub slice_bounds-put_node-count : goal.slice_bounds-put_node-count
 slice_bounds-put_node-count c =

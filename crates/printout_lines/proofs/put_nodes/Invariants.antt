@@ -1,14 +1,11 @@
 -- `printout_lines::put_nodes` meets its contract. The invariant, for every drawing that lies in the memory: the lines of the nodes before the next are in, and those from
 -- it on are left. The measure is the number of nodes left. Assumes nothing.
-use borrow.Author.Rules.{rules}
-use mathlib.Core.Path.{refl}
 use mathlib.Core.List.{List}
 use Prim.Native.Nat.{◌-◌}
-use native.Mathlib.Omega.{arith}
 use Rattle.diagram.specs.Table.{Node}
 use Rattle.printout_lines.specs.Lying.{Lying}
-use Rattle.text.proofs.Cuts.{Left, left_all, left_less, left_none}
-use Rattle.printout_lines.proofs.Drawn.{lines_left, places, lines_turn, lines_none}
+use Rattle.text.proofs.Cuts.{Left}
+use Rattle.printout_lines.proofs.Drawn.{lines_left}
 use Rattle.printout_lines.proofs.put_nodes.Given as goal
 
 abbrev pub invariant-nodes : goal.invariant-nodes

@@ -1,5 +1,4 @@
 -- `printout_lines::put_refusal` meets its contract: its pieces stand one behind the other, and the number and the place are the table's. Assumes nothing.
-use borrow.Author.Rules.{rules}
 use mathlib.Core.Path.{ap}
 use Rattle.text.specs.Decimal.{decimal}
 use Rattle.text.proofs.Cuts.{wrote_as, wrote_then}

@@ -1,5 +1,4 @@
 -- `printout_marking::mark` meets its contract: the buffer is long enough for every text. Assumes nothing.
-use borrow.Author.Rules.{rules}
 use native.Mathlib.Omega.{arith}
 use Rattle.printout_marking.proofs.Fits.{marks_whole, marks_clauses}
 use Rattle.printout_marking.proofs.mark.Goals as goal

@@ -1,6 +1,5 @@
 -- `printout_marking::mark_bytes` meets its contract, by the two tests on the number of bytes; where both let the bytes pass, their words find room.
 -- Assumes nothing.
-use borrow.Author.Rules.{rules}
 use native.Mathlib.Omega.{arith}
 use Rattle.text.proofs.Cuts.{printed_inside, printed_count}
 use Rattle.printout_marking.proofs.Input.{answer_long, answer_bad, answer_words, answer_clauses}

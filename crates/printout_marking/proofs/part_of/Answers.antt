@@ -1,5 +1,4 @@
 -- `printout_marking::part_of` meets its contract, by the two tests of the count. Assumes nothing.
-use borrow.Author.Rules.{rules}
 use native.Mathlib.Omega.{arith}
 use Rattle.printout_marking.proofs.Parts.{part_none, part_short, part_whole}
 use Rattle.printout_marking.proofs.part_of.Goals as goal

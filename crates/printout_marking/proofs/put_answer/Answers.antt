@@ -1,5 +1,4 @@
 -- `printout_marking::put_answer` meets its contract, by the three cases of the answer. Assumes nothing.
-use borrow.Author.Rules.{rules}
 use mathlib.Core.Path.{sym, ap}
 use Rattle.text.proofs.Cuts.{wrote_as}
 use Rattle.printout_marking.specs.Printed.{answer_text}

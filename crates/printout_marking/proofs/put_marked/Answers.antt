@@ -1,5 +1,4 @@
 -- `printout_marking::put_marked` meets its contract, by the two cases of the reply. Assumes nothing.
-use borrow.Author.Rules.{rules}
 use mathlib.Core.Path.{sym, ap}
 use Rattle.text.proofs.Cuts.{wrote_as}
 use Rattle.printout_marking.specs.Printed.{marked_line}

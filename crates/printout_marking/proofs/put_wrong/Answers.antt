@@ -1,5 +1,4 @@
 -- `printout_marking::put_wrong` meets its contract: its pieces stand one behind the other, and the number and the place are the refusal's. Assumes nothing.
-use borrow.Author.Rules.{rules}
 use mathlib.Core.Path.{ap}
 use native.Mathlib.Omega.{arith}
 use Rattle.text.specs.Decimal.{decimal}

@@ -1,6 +1,6 @@
 -- `search_hints::count_level` keeps within both lists: a record of the level is one of the first `count`, and each part ends within the words of the level.
 -- The measure is the number of records left. Assumes nothing.
-use Rattle.std.proofs.Common.{◌≡◌, ◌+◌, ◌-◌, ◌≤◌, length, arith, rules}
+use Rattle.std.proofs.Common.{◌≡◌, ◌+◌, ◌-◌, ◌≤◌, length}
 use Rattle.search_hints.specs.Level.{level_words}
 use Rattle.search_hints.proofs.count_level.Given as goal
 

@@ -1,6 +1,6 @@
 -- `search_hints::prepare` meets its contract: it goes on only while the words of a level are there, and none of its stores changes the length. The measure is
 -- the number of levels left. Assumes nothing.
-use Rattle.std.proofs.Common.{◌≡◌, ◌+◌, ◌-◌, ◌≤◌, length, ◌∙◌, arith, length-set, rules}
+use Rattle.std.proofs.Common.{◌≡◌, ◌-◌, ◌≤◌, length}
 use Rattle.diagram.specs.Constraint.{most_terms}
 use Rattle.search_hints.proofs.prepare.Given as goal
 

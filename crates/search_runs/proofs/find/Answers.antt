@@ -4,7 +4,6 @@ use mathlib.Core.Path.{sym, refl, ◌∙◌}
 use native.Mathlib.Omega.{arith}
 use lib.ListN.{drop, length-drop}
 use lib.Seq.{length-take-le}
-use borrow.Author.Rules.{rules}
 use Rattle.finder.specs.declared.Found.TheVariants.{At, Nothing}
 use Rattle.finder.specs.Find.{find_in}
 use Rattle.word.specs.Record.{labelled, record_words}

@@ -1,6 +1,5 @@
 -- `search_runs::merge` meets its contract, by those of copying and of merging from the end. Assumes nothing.
 use native.Mathlib.Omega.{arith}
-use borrow.Author.Rules.{rules}
 use Rattle.search_runs.proofs.Views.{run_copied}
 use Rattle.search_runs.proofs.merge.Goals as goal
 

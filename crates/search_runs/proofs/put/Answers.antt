@@ -3,7 +3,6 @@ use Prim.Native.Nat.{◌*◌, ◌-◌}
 use mathlib.Core.Path.{sym, ◌∙◌}
 use native.Mathlib.Omega.{arith}
 use lib.ListN.{length, take, drop}
-use borrow.Author.Rules.{rules}
 use Rattle.word.specs.Record.{labelled, record_words}
 use Rattle.word.proofs.Labels.{labelled_length}
 use Rattle.finder.proofs.Gap.{gap_most}

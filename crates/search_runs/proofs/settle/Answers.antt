@@ -7,9 +7,9 @@ use Rattle.search_runs.proofs.settle.Goals as goal
 
 pub returns-then-pending-work : goal.returns-then-pending-work
 returns-then-pending-work c = record {
-      settled = record { within = omega arith; free = omega arith; long = refl; way = inl (refl, refl) };
-      work_len_unchanged = refl;
-    }
+  settled = record { within = omega arith; free = omega arith; long = refl; way = inl (refl, refl) };
+  work_len_unchanged = refl;
+}
 
 pub returns : goal.returns
 returns c =

@@ -1,13 +1,10 @@
 -- `search_runs::merging::merge_back` meets its contract. The invariant of both loops: what is left to merge, followed by what is stored, is the merge of the
 -- runs. Each turn has one record less to merge, of the second run in the outer loop and of the first in the inner. Assumes nothing.
 use Prim.Native.Nat.{ℕ, ◌≤◌}
-use mathlib.Core.Path.{◌≡◌, refl, sym, ◌∙◌}
+use mathlib.Core.Path.{◌≡◌}
 use mathlib.Core.List.{List}
-use native.Mathlib.Omega.{arith}
 use lib.ListN.{length}
-use borrow.Author.Rules.{rules}
-use Rattle.word.specs.Record.{labels}
-use Rattle.search_runs.proofs.Turns.{Inv, inv_start, inv_end, above_some, turn_main, turn_pending}
+use Rattle.search_runs.proofs.Turns.{Inv}
 use Rattle.search_runs.proofs.merging.merge_back.Given as goal
 
 abbrev pub invariant-loop-i : goal.invariant-loop-i
