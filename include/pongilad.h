@@ -245,7 +245,7 @@ pongilad_tested pongilad_test(const uint8_t *values, size_t values_length, const
  * not say that there is a solution.
  * All bytes and all words are checked first. No other memory is used. Besides the check, a list of the encoder takes a few passes over its
  * clauses, and any list at most two more than there are open values: a chain of 100,000 implications took a millisecond in the order of the
- * chain, and 24 seconds in a random order (measured with the older kit, see docs/PORT.md). */
+ * chain, and 24 seconds in a random order. */
 pongilad_propagated pongilad_propagate(const uint8_t *values, size_t values_length, const uint32_t *clauses, size_t clauses_length,
                                        uint8_t *settled, size_t settled_length);
 

@@ -122,10 +122,10 @@ extension_on cs bs b d p q =
       legal = q.legal;
     }
 
-module _ (cs : List Clause) (bs b : List ℕ) (known : KnownIn (length bs) cs) (way : SoundExtension cs bs b) (c : Clause) (in_List : HasClause cs c) where
+module _ (cs : List Clause) (bs b : List ℕ) (known : KnownIn (length bs) cs) (way : SoundExtension cs bs b) (c : Clause) (in_list : HasClause cs c) where
   -- FALSIFIED: a conflict in what is settled
   pub falsified_conflict : status b c ≡ falsified → Conflicting cs (Derived cs bs)
-  falsified_conflict e = (c, in_List, λ k m. way.sound (opposite k) ((falsified_is b c).0 e k m))
+  falsified_conflict e = (c, in_list, λ k m. way.sound (opposite k) ((falsified_is b c).0 e k m))
 
   -- UNIT: the literal is settled, and one byte fewer is open
   pub unit_extends : (l : Literal) → status b c ≡ unit l → SoundExtension cs bs (put_literal b l) × (open_count (put_literal b l) < open_count b)
@@ -133,9 +133,9 @@ module _ (cs : List Clause) (bs b : List ℕ) (known : KnownIn (length bs) cs) (
     where
       go : LastOpen b c l → SoundExtension cs bs (put_literal b l) × (open_count (put_literal b l) < open_count b)
       go h =
-          let w = known c in_List l h.in_it in
+          let w = known c in_list l h.in_it in
           let u : l.of ≤ length b = omega (arith, w.1, way.long) in
-          let new : Derived cs bs l = implied c in_List l h.in_it (λ k m n. way.sound (opposite k) (h.others k m n)) in (
+          let new : Derived cs bs l = implied c in_list l h.in_it (λ k m n. way.sound (opposite k) (h.others k m n)) in (
             record {
               sound = λ k t. ⊎_elim (λ q. subst (λ (x : Literal). Derived cs bs x) (sym q) new) (way.sound k) (put_true b l k w.0 u t);
               keeps = λ k t. put_keeps b l k w.0 h.is_open (way.keeps k t);
