@@ -1,10 +1,9 @@
 -- PUTTING A NODE'S RECORD IN, over the words of the lent table. Assumes nothing.
-use Rattle.std.specs.Prelude.{◌≡◌, List, ℕ, ◌+◌, ◌/◌, ◌≤◌, length}
+use Rattle.std.specs.Prelude.{◌≡◌, List, ℕ, ◌+◌, ◌/◌, ◌≤◌, length, Option, Some, None}
 use Rattle.word.specs.Record.{labelled, record_words, RecordsFit}
+use Rattle.search_runs.specs.declared.TwoRuns.{TwoRuns}
 use Rattle.search_runs.specs.Runs.{second_run, Apart, Runs, Settled, PutIn}
 use Rattle.builder_steps.specs.declared.Ends.{Ends}
-use Rattle.builder_steps.specs.declared.Built.{Built}
-use Rattle.builder_steps.specs.declared.Built.TheVariants.{Done, Full}
 
 -- The table has `count` records in two runs, the first of m records and the second within w words, no two labels of a level overlapping.
 pub record Two (t : List ℕ) (m count w : ℕ) : Type 0 where
@@ -20,6 +19,6 @@ pub record Put (t : List ℕ) (m count w level r : ℕ) (e : Ends) (t' : List �
   pub same : e' ≡ e
   pub room : RecordsFit n t
 
-abbrev pub PutOk : List ℕ → ℕ → ℕ → ℕ → ℕ → ℕ → Ends → List ℕ → Built → Type 0
-PutOk t m count w level r e t' (Done m' n e') = Put t m count w level r e t' m' n e'
-PutOk t m count w level r e t' Full = (length t / record_words ≤ count) × (t' ≡ t)
+abbrev pub PutOk : TwoRuns → ℕ → ℕ → Ends → TwoRuns → Option Ends → Type 0
+PutOk s level r e s' (Some e') = Put s.table.now s.main s.count (length s.work.now) level r e s'.table.now s'.main s'.count e'
+PutOk s level r e s' None = (length s.table.now / record_words ≤ s.count) × (s'.table.now ≡ s.table.now) × (s'.main ≡ s.main) × (s'.count ≡ s.count)

@@ -1,12 +1,14 @@
 // The steps of building that stand outside its cycle of calls: where a child leads, what its label does to the row's, and putting a node's record in.
 #![tactic(auto)]
 
-ghost use Rattle.std.specs.Prelude.{◌≡◌, suc, ◌+◌, ◌-◌, ◌*◌, ◌<◌, min, max, length, get_or};
+ghost use Rattle.std.specs.Prelude.{◌≡◌, suc, ◌+◌, ◌-◌, ◌*◌, ◌<◌, length, get_or};
 ghost use Rattle.word.specs.Record.{labelled, RecordsFit, record_at};
 ghost use Rattle.finder.specs.Find.{Missing};
+ghost use Rattle.search_runs.specs.RunsKept.{RunsKept};
 ghost use Rattle.builder_steps.specs.Branch.{ends as ends', branch_of, cut_of, overlap_of};
 ghost use Rattle.builder_steps.specs.Put.{Two, PutOk};
 
+use search_runs::TwoRuns;
 use word::{LOWER, NodeNumber, RECORD, Remainder, UPPER};
 
 // The two ends of a label.
@@ -24,40 +26,61 @@ pub enum Branch {
     On(Remainder, u32),
 }
 
-// The numbers of records in the first run and in both, and a label; or no room for a further node.
-#[derive(Drop)]
-pub enum Built {
-    Done(usize, usize, Ends),
-    Full,
-}
+impl Ends {
+    // The ends of all numbers below `top`.
+    pub fn all_below(top: u32) -> Ends
+        requires { 0 < top }
+        ensures { result ≡ ends' 0 (top - 1) }
+    {
+        Ends {
+            lower: 0,
+            upper: top - 1,
+        }
+    }
 
-// The larger of two numbers.
-fn larger(a: u32, b: u32) -> u32
-    ensures { result ≡ max a b }
-{
-    if a < b { b } else { a }
-}
+    // The label of a record. (That this one fits is all that may be asked, so the words come as they are, and not as `Records`.)
+    pub fn at(table: &[u32], k: NodeNumber) -> Ends
+        requires { RecordsFit (suc k.0) table.now }
+        ensures { result ≡ ends' (record_at table.now k.0).lower (record_at table.now k.0).upper }
+    {
+        let b = k.0 * RECORD;
+        Ends {
+            lower: table[b + LOWER],
+            upper: table[b + UPPER],
+        }
+    }
 
-// The smaller of two numbers.
-fn smaller(a: u32, b: u32) -> u32
-    ensures { result ≡ min a b }
-{
-    if a < b { a } else { b }
-}
+    // The ends, cut by a child that is F or T.
+    pub fn cut(self, b: Branch) -> Ends
+        ensures { result ≡ cut_of self b }
+    {
+        match b {
+            Branch::False(top) => Ends {
+                lower: self.lower,
+                upper: self.upper.min(top),
+            },
+            Branch::True(bottom) => Ends {
+                lower: self.lower.max(bottom),
+                upper: self.upper,
+            },
+            Branch::On(_, _) => self,
+        }
+    }
 
-// The ends of all numbers below `top`.
-pub fn all_below(top: u32) -> Ends
-    requires { 0 < top }
-    ensures { result ≡ ends' 0 (top - 1) }
-{
-    Ends {
-        lower: 0,
-        upper: top - 1,
+    // The overlap of the ends with a child's label moved up by m.
+    pub fn overlap(self, s: Ends, m: u32) -> Ends
+        requires { (s.lower + m < 4294967296) × (s.upper + m < 4294967296) }
+        ensures { result ≡ overlap_of self s m }
+    {
+        Ends {
+            lower: self.lower.max(s.lower + m),
+            upper: self.upper.min(s.upper + m),
+        }
     }
 }
 
-// Child j of the remainder at level i.
-pub fn child<'a>(coefs: &'a [u32], rests: &'a [u32], i: usize, r: Remainder, j: u32) -> Branch
+// Child j of the remainder at level i. (What it asks may not grow, and it does not ask that the slices are a constraint's: so they come as they are, and not as `Levels`.)
+pub fn child(coefs: &[u32], rests: &[u32], i: usize, r: Remainder, j: u32) -> Branch
     requires { (i < length coefs.now) × (i + 1 < length rests.now) × (get_or coefs.now i 0 * j + get_or rests.now (i + 1) 0 < 4294967296) }
     ensures { result ≡ branch_of (get_or coefs.now i 0) (get_or rests.now (i + 1) 0) r.0 j }
 {
@@ -73,65 +96,23 @@ pub fn child<'a>(coefs: &'a [u32], rests: &'a [u32], i: usize, r: Remainder, j: 
     Branch::On(Remainder(x - m), m)
 }
 
-// The ends, cut by a child that is F or T.
-pub fn cut(e: Ends, b: Branch) -> Ends
-    ensures { result ≡ cut_of e b }
-{
-    match b {
-        Branch::False(top) => Ends {
-            lower: e.lower,
-            upper: smaller(e.upper, top),
-        },
-        Branch::True(bottom) => Ends {
-            lower: larger(e.lower, bottom),
-            upper: e.upper,
-        },
-        Branch::On(_, _) => e,
-    }
-}
-
-// The overlap of the ends with a child's label moved up by m.
-pub fn overlap(e: Ends, s: Ends, m: u32) -> Ends
-    requires { (s.lower + m < 4294967296) × (s.upper + m < 4294967296) }
-    ensures { result ≡ overlap_of e s m }
-{
-    Ends {
-        lower: larger(e.lower, s.lower + m),
-        upper: smaller(e.upper, s.upper + m),
-    }
-}
-
-// The label of a record.
-pub fn label_at(table: &[u32], k: NodeNumber) -> Ends
-    requires { RecordsFit (suc k.0) table.now }
-    ensures { result ≡ ends' (record_at table.now k.0).lower (record_at table.now k.0).upper }
-{
-    let b = k.0 * RECORD;
-    Ends {
-        lower: table[b + LOWER],
-        upper: table[b + UPPER],
-    }
-}
-
 // Puts a record for the label into the table's second run, at the gap, which is looked for at `near` first. Before the run grows too long it is merged into the
-// first.
+// first. Nothing where there is no room for a further node.
 pub fn put(
-    table: &mut [u32],
-    work: &mut [u32],
-    main: usize,
-    count: usize,
+    runs: &mut TwoRuns<'_, '_>,
     near: usize,
     level: u32,
     r: Remainder,
     e: Ends,
-) -> Built
-    requires { Two table.old main count (length work.old) × RecordsFit 1 work.old × Missing (labelled table.old count) level r.0 }
-    ensures { PutOk table.old main count (length work.old) level r.0 e table.new result }
+) -> Option<Ends>
+    requires { Two runs.old.table.now runs.old.main runs.old.count (length runs.old.work.now) × RecordsFit 1 runs.old.work.now × Missing (labelled runs.old.table.now runs.old.count) level r.0 }
+    ensures put { PutOk runs.old level r.0 e runs.new result }
+    ensures kept { RunsKept runs.old runs.new }
 {
-    if table.len() / RECORD <= count {
-        return Built::Full;
+    if runs.table.len() / RECORD <= runs.count {
+        return None;
     }
-    let k = search_runs::settle(table, work, main, count);
-    search_runs::put(table, k, count, near, level, r, e.lower, e.upper);
-    Built::Done(k, count + 1, e)
+    runs.settle();
+    runs.put(near, level, r, e.lower, e.upper);
+    Some(e)
 }

@@ -12,8 +12,9 @@ use borrow.Author.Tests.{eqb-true, eq-eqb, ne_eqb, le-leb}
 use Rattle.word.specs.Word.{kind, payload, boolean, last_boolean, end_word, last_count}
 use Rattle.refusal.specs.Table.{and_then, unless}
 use Rattle.refusal.specs.declared.Refusal.TheVariants.{ClauseWord, UnknownBoolean, LiteralCount, OpenClause}
-use Rattle.refusal.specs.declared.Checked.{Checked}
-use Rattle.refusal.specs.declared.Checked.TheVariants.{Passed, Refused}
+use Rattle.refusal.specs.Table.{Checked}
+use Rattle.std.specs.Prelude.{Err}
+use Rattle.refusal.specs.Table.{passed}
 use Rattle.word.proofs.Tests.{between_is}
 use Rattle.refusal.proofs.Passes.{refused_fails, both_passed, unless_passed}
 use Rattle.clause.specs.Meaning.{Clause, Literal, literal_of, joined, clauses_of, word_of, closed, words_of}
@@ -41,7 +42,7 @@ module _ (m n : ℕ) (fits : m ≤ last_boolean) (allowed : m ≤ n) where
       ∙ literals_pass c (suc at) (suc k) ws h.1
       ∙ ap₂ (λ (i j : ℕ). list_from n i j ws) (omega arith) (omega arith)
 
-  pub words_pass : (cs : List Clause) (at : ℕ) → Fit m cs → list_from n at 0 (words_of cs) ≡ Passed
+  pub words_pass : (cs : List Clause) (at : ℕ) → Fit m cs → list_from n at 0 (words_of cs) ≡ passed
   unfolding list_from
   words_pass [] at h = refl
   words_pass (c ∷ cs) at h =
@@ -58,11 +59,11 @@ Lawful l [] = l ≡ 0
 Lawful l (w ∷ ws) =
     ((kind w ≡ 3) × (payload w ≡ l) × Lawful 0 ws) ⊎ ((kind w ≡ 2) × (0 < boolean w) × Lawful (suc l) ws)
 
-pub lawful : (n at l : ℕ) (ws : List ℕ) → list_from n at l ws ≡ Passed → Lawful l ws
+pub lawful : (n at l : ℕ) (ws : List ℕ) → list_from n at l ws ≡ passed → Lawful l ws
 unfolding list_from
 lawful n at l [] e = go (eqb l 0) refl e
   where
-    go : (b : Bool) → eqb l 0 ≡ b → unless b (OpenClause at) ≡ Passed → l ≡ 0
+    go : (b : Bool) → eqb l 0 ≡ b → unless b (OpenClause at) ≡ passed → l ≡ 0
     go true f e = eqb-true l 0 f
     go false f e = refused_fails (OpenClause at) e
 lawful n at l (w ∷ ws) e = go (eqb (kind w) 3) refl (eqb (kind w) 2) refl (λ k. lawful n (suc at) k ws) e
@@ -73,8 +74,8 @@ lawful n at l (w ∷ ws) e = go (eqb (kind w) 3) refl (eqb (kind w) 2) refl (λ 
     goes : Checked
     goes = and_then (unless (leb 1 (boolean w) && leb (boolean w) n) (UnknownBoolean at)) (list_from n (suc at) (suc l) ws)
 
-    go : (p : Bool) → eqb (kind w) 3 ≡ p → (q : Bool) → eqb (kind w) 2 ≡ q → ((k : ℕ) → list_from n (suc at) k ws ≡ Passed → Lawful k ws)
-        → cond p ends (cond q goes (Refused (ClauseWord at))) ≡ Passed → Lawful l (w ∷ ws)
+    go : (p : Bool) → eqb (kind w) 3 ≡ p → (q : Bool) → eqb (kind w) 2 ≡ q → ((k : ℕ) → list_from n (suc at) k ws ≡ passed → Lawful k ws)
+        → cond p ends (cond q goes (Err (ClauseWord at))) ≡ passed → Lawful l (w ∷ ws)
     go true f q g more e =
         let h = both_passed (unless (eqb (payload w) l) (LiteralCount at)) (list_from n (suc at) 0 ws) e in
         inl (eqb-true (kind w) 3 f, eqb-true (payload w) l (unless_passed (eqb (payload w) l) (LiteralCount at) h.0), more 0 h.1)

@@ -2,8 +2,8 @@
 use Rattle.std.specs.Prelude.{List, [], ◌∷◌, cond, ◌&&◌, ℕ, suc, leb, eqb}
 use Rattle.word.specs.Word.{kind, payload, boolean}
 use Rattle.refusal.specs.Table.{and_then, unless}
-use Rattle.refusal.specs.declared.Checked.{Checked}
-use Rattle.refusal.specs.declared.Checked.TheVariants.{Refused}
+use Rattle.refusal.specs.Table.{Checked}
+use Rattle.std.specs.Prelude.{Err}
 use Rattle.refusal.specs.declared.Refusal.TheVariants.{ClauseWord, UnknownBoolean, LiteralCount, OpenClause}
 
 -- 11, 12 and 13 word by word, and 14 at the end: the Booleans from 1 to n may occur, and k literals stand since the last end word.
@@ -12,4 +12,4 @@ list_from n at k [] = unless (eqb k 0) (OpenClause at)
 list_from n at k (w ∷ ws) =
     let end : Checked = and_then (unless (eqb (payload w) k) (LiteralCount at)) (list_from n (suc at) 0 ws) in
     let literal : Checked = and_then (unless (leb 1 (boolean w) && leb (boolean w) n) (UnknownBoolean at)) (list_from n (suc at) (suc k) ws) in
-    cond (eqb (kind w) 3) end (cond (eqb (kind w) 2) literal (Refused (ClauseWord at)))
+    cond (eqb (kind w) 3) end (cond (eqb (kind w) 2) literal (Err (ClauseWord at)))

@@ -1,12 +1,12 @@
 -- The turns of the loops: what is left to write from one level or value on is its clauses, and what is left from the next on.
 -- Assumes nothing.
-use mathlib.Core.Path.{◌≡◌, ap}
+use mathlib.Core.Path.{◌≡◌}
 use mathlib.Core.List.{List, [], ◌∷◌, ◌++◌}
 use mathlib.Core.Bool.{true, false}
-use Prim.Native.Nat.{ℕ, suc, ◌+◌, ◌-◌, ◌≤◌, ◌<◌}
+use Prim.Native.Nat.{ℕ, suc, ◌+◌, ◌-◌, ◌<◌}
 use native.Mathlib.Numerals.{add-one}
 use native.Mathlib.Omega.{arith}
-use lib.ListN.{length, get_or, drop, drop_of_length-le}
+use lib.ListN.{length, get_or, drop}
 use lib.Seq.{drop-cons}
 use Rattle.word.specs.Word.{literal_word, end_word}
 use Rattle.word.specs.Edge.{Edge, T, F, edge_boolean}
@@ -23,18 +23,12 @@ use Rattle.clause_buffer.specs.Ended.{ended}
 abbrev pub order_left : ℕ → ℕ → ℕ → List ℕ
 order_left b d j = words_of (order_of (b + j) (d - j))
 
-pub order_all : (b d : ℕ) → words_of (order_of (suc b) (d - 1)) ≡ order_left b d 1
-order_all b d = rw add-one
-
 pub order_turn : (b d j : ℕ) {a c : ℕ} → j < d → a ≡ literal_word false (b + j) → c ≡ literal_word true (b + j + 1)
     → Parts (order_left b d j) (a ∷ c ∷ end_word 2 ∷ []) (order_left b d (j + 1))
 order_turn b d j {a} {c} h p q =
     let e : d - j ≡ suc (d - (j + 1)) = omega arith in
     let f : b + (j + 1) ≡ suc (b + j) = omega arith in
     record { joined = rw (p, q, f, add-one (b + j), e) }
-
-pub order_none : (b d j : ℕ) → d ≤ j → order_left b d j ≡ []
-order_none b d j h = let e : d - j ≡ 0 = omega arith in rw e
 
 -- of the levels from one on; b order Booleans come before
 abbrev pub levels_left : List ℕ → ℕ → ℕ → List ℕ
@@ -46,9 +40,6 @@ levels_turn ds b i h =
     record {
       joined = rw (drop-cons ds i 0, add-one) (words_append (order_of (suc b) (get_or ds i 0 - 1)) (orders_of (b + get_or ds i 0) (ended (drop (suc i) ds))));
     }
-
-pub levels_none : (ds : List ℕ) (b i : ℕ) → length ds ≤ i → levels_left ds b i ≡ []
-levels_none ds b i h = ap (λ (l : List ℕ). words_of (orders_of b (ended l))) (drop_of_length-le ds h)
 
 pub orders_turn : (ds : List ℕ) (i : ℕ) → i < length ds → orders (ended (drop i ds)) ≡ get_or ds i 0 + orders (ended (drop (i + 1) ds))
 orders_turn ds i h = rw (drop-cons ds i 0, add-one)

@@ -21,7 +21,7 @@ fn child_literal(orders: u32, w: u32) -> u32
     requires { edge_boolean orders (edge_in w) ≤ last_boolean }
     ensures { result ≡ literal_word true (edge_boolean orders (edge_in w)) }
 {
-    clause_buffer::literal(true, word::child_variable(orders, word::child_of(w)))
+    word::literal(true, word::child_variable(orders, Child::from(w)))
 }
 
 // The clauses of a node with these edges, where some order Booleans come before its level's; the place behind them.
@@ -40,13 +40,11 @@ fn write_node(
     requires room { Room (words_of (node_of orders (edge_boolean orders (to node.0)) (suc earlier) (map edge_in edges.now))) start out.old }
     ensures { WroteWords (words_of (node_of orders (edge_boolean orders (to node.0)) (suc earlier) (map edge_in edges.now))) start out.old out.new result }
 {
-    let n = clause_buffer::literal(false, word::node_variable(orders, node));
-    let mut at = clause_buffer::put_two(out, start, n, child_literal(orders, edges[0]));
-    let mut j = 1;
-    'children: while j < edges.len() {
-        let b = clause_buffer::literal(true, Variable(earlier + j as u32));
-        at = clause_buffer::put_three(out, at, n, b, child_literal(orders, edges[j]));
-        j += 1;
+    let n = word::literal(false, word::node_variable(orders, node));
+    let mut at = clause_buffer::put_clause(out, start, [n, child_literal(orders, edges[0])]);
+    for j in 1..edges.len() {
+        let b = word::literal(true, Variable(earlier + j as u32));
+        at = clause_buffer::put_clause(out, at, [n, b, child_literal(orders, edges[j])]);
     }
     at
 }
@@ -60,10 +58,8 @@ fn forward(ends: &[u32], from: usize, sum: u32, level: usize) -> u32
     ensures { result ≡ orders_before (ended ends.now) level }
 {
     let mut earlier = sum;
-    let mut i = from;
-    'levels: while i < level {
-        earlier += ends[i];
-        i += 1;
+    for &end in &ends[from..level] {
+        earlier += end;
     }
     earlier
 }
@@ -81,7 +77,7 @@ fn before_level(ends: &[u32], from: usize, sum: u32, level: usize) -> u32
     forward(ends, from, sum, level)
 }
 
-// The clauses of all nodes in order; the place behind them.
+// The clauses of all nodes in order; the place behind them. A struct of the five lists and numbers would be no plainer: but for `write` no function takes them all.
 fn write_nodes(
     ends: &[u32],
     orders: u32,
@@ -96,17 +92,15 @@ fn write_nodes(
     ensures { WroteWords (words_of (nodes_of (ended ends.now) orders 0 (nodes_held ends.now table.now count edges.now))) start out.old out.new result }
 {
     let mut at = start;
-    let mut earlier: u32 = 0;
+    let mut earlier = 0;
     let mut level = 0;
-    let mut k = 0;
-    'nodes: while k < count {
+    for k in 0..count {
         let next = table[k * RECORD] as usize - 1;
         let first = table[k * RECORD + FIRST] as usize;
         let past = first + ends[next] as usize + 1;
         earlier = before_level(ends, level, earlier, next);
         level = next;
         at = write_node(orders, NodeNumber(k), earlier, &edges[first..past], out, at);
-        k += 1;
     }
     at
 }

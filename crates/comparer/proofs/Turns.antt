@@ -11,7 +11,7 @@ use lib.ListN.{length, get_or, take, drop, drop_of_length-le, length-take, lengt
 use lib.Seq.{drop-cons, drop-drop}
 use Rattle.word.specs.Word.{of_bytes}
 use Rattle.word.proofs.Tests.{both_true}
-use Rattle.comparer.specs.declared.Compared.TheVariants.{Same, Differs}
+use Rattle.std.specs.Prelude.{Some, None}
 use Rattle.comparer.specs.Bytes.{bytes_of, compared_from, compared}
 use Rattle.comparer.specs.Four.{has_four, AllHave}
 use Rattle.comparer.proofs.Lists.{ne_list}
@@ -32,7 +32,7 @@ module _ (bs ws : List ℕ) where
       (λ e. omega (arith, ap length e, length-take 4 (drop (k * 4) bs), length-drop (k * 4) bs))
 
   -- One word more has its bytes; four more have theirs.
-  pub one_more : (k n : ℕ) → n ≡ suc k → AllHave bs ws k → has_four bs ws k ≡ true → AllHave bs ws n
+  one_more : (k n : ℕ) → n ≡ suc k → AllHave bs ws k → has_four bs ws k ≡ true → AllHave bs ws n
   one_more k n next all e j h = ⊎_elim (λ f. rw f e) (λ l. all j l) (eq-or-lt_of_le {n = j} {m = k} (omega arith))
 
   pub four_more : (k : ℕ) {a b c d : Bool} → a ≡ has_four bs ws k → b ≡ has_four bs ws (k + 1) → c ≡ has_four bs ws (k + 2) → d ≡ has_four bs ws (k + 3)
@@ -58,23 +58,23 @@ module _ (bs ws : List ℕ) where
 
   module _ (k : ℕ) (all : AllHave bs ws k) where
     -- Word k lacks some of its four bytes or differs from them.
-    pub word_apart : k < length ws → has_four bs ws k ≡ false → compared bs ws ≡ Differs k
+    pub word_apart : k < length ws → has_four bs ws k ≡ false → compared bs ws ≡ Some k
     unfolding compared_from
     word_apart h e = past k (omega arith) all ∙ rw (drop-cons ws k 0 h, e)
 
     -- Only bytes are left over.
-    pub left_over : k ≡ length ws → k * 4 < length bs → compared bs ws ≡ Differs k
+    pub left_over : k ≡ length ws → k * 4 < length bs → compared bs ws ≡ Some k
     unfolding compared_from
     left_over h l = past k (omega arith) all ∙ rw (drop_of_length-le ws {i = k} (omega arith), drop-cons bs (k * 4) 0 l)
 
     -- Nothing is left over.
-    pub none_left : k ≡ length ws → k * 4 ≡ length bs → compared bs ws ≡ Same
+    pub none_left : k ≡ length ws → k * 4 ≡ length bs → compared bs ws ≡ None
     unfolding compared_from
     none_left h l = past k (omega arith) all ∙ rw (drop_of_length-le ws {i = k} (omega arith), drop_of_length-le bs {i = k * 4} (omega arith))
 
     -- There is no further full word, and the bytes are not as many as those of the words.
     pub ends_apart : k ≤ length ws → k * 4 ≤ length bs → (k < length ws → length bs < k * 4 + 4) → ¬ (length bs ≡ length ws * 4)
-        → compared bs ws ≡ Differs k
+        → compared bs ws ≡ Some k
     ends_apart h l few n =
         ⊎_elim
         (λ e. left_over e (omega (arith, e)))

@@ -57,3 +57,11 @@ module _ (k : Constraint) (within : Within k) where
     pub bound_held : c.bound ≡ bound_of k.bound
     unfolding held_of
     bound_held = ap (λ (h : Held). h.bound) is
+
+    pub orders_held : c.orders ≡ orders (levels k.terms)
+    unfolding held_of
+    orders_held = ap (λ (h : Held). h.orders) is
+
+    pub terms_few : c.terms ≤ most_terms
+    unfolding held_of
+    terms_few = subst (λ (h : Held). h.terms ≤ most_terms) (sym is) within.few

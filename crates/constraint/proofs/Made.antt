@@ -9,7 +9,7 @@ use borrow.Author.Tests.{eqb-true}
 use lib.IntN.{ℤ, pos, sub_ℕ, ◌+ℤ◌, +ℤ_assoc, +ℤ_comm, +ℤ_idr}
 use lib.ListN.{length, get_or, drop, set, replicate, length-map, drop_of_length-le}
 use Rattle.word.specs.Word.{kind, half, coefficient, domain_end, negated}
-use Rattle.refusal.specs.declared.Checked.TheVariants.{Passed}
+use Rattle.refusal.specs.Table.{passed}
 use Rattle.diagram.specs.Constraint.{Term, AllLimited, most_terms, greatest_sum, most_orders}
 use Rattle.inequality.specs.Written.{SignedTerm}
 use Rattle.inequality.specs.Base.{bound_by, negative_by, shift_if, shifts, base_term, turned_by, sign_if}
@@ -21,6 +21,7 @@ use Rattle.constraint.specs.declared.making.Item.{Item}
 use Rattle.limits.specs.Limits.{main_limits}
 use Rattle.constraint_words.specs.Reading.{has_relation, first_item, term_checked, term_of, terms_from, terms_in, relation_in, bound_in, checked, as_written, stated}
 use Rattle.constraint.specs.Held.{held_of}
+use Rattle.constraint.specs.Filling.{begun, with_level}
 use Rattle.constraint_bound.specs.Bound.{bound_of}
 use Rattle.constraint_bound.specs.Sums.{most_bound, most_shift, most_sum, Differ, added}
 use Rattle.constraint.specs.Item.{item_before}
@@ -28,7 +29,7 @@ use Rattle.constraint_words.proofs.Laws.{AllPassed, checked_all, term_limited, u
 use Rattle.constraint_words.proofs.Checking.{each_at}
 use Rattle.constraint_words.proofs.Items.{Items, items_from, placed_items, first_within}
 use Rattle.constraint.proofs.Before.{ItemKnown, item_known}
-use Rattle.constraint.proofs.Filling.{FilledFrom, filled_none, filled_next, Complete, filled_all}
+use Rattle.constraint.proofs.Filling.{FilledFrom, filled_none, filled_next, Complete, filled_all, rest_first}
 use Rattle.constraint.proofs.Laws.{sums_fit}
 use Rattle.constraint_bound.proofs.Shifting.{sub_is, differ_is}
 
@@ -60,7 +61,35 @@ pub record Made (ws : List ℕ) (terms : ℕ) (coefficients ends rests : List �
   pub gain_fits : p.gain ≤ most_bound + most_shift * length (terms_at ws at)
   pub loss_fits : p.loss ≤ most_bound + most_shift * length (terms_at ws at)
 
-module _ (ws : List ℕ) (ok : checked main_limits ws ≡ Passed) where
+-- The same of the record that is being made.
+abbrev pub Making : List ℕ → Held → Difference → ℕ → ℕ → Type 0
+Making ws r p at level = Made ws r.terms r.coefficients r.ends r.rests r.orders (get_or r.rests level 0) p at level
+
+own_rest : {ws : List ℕ} {terms : ℕ} {coefficients ends rests : List ℕ} {orders rest : ℕ} {p : Difference} {at level : ℕ}
+    → Made ws terms coefficients ends rests orders rest p at level → Made ws terms coefficients ends rests orders (get_or rests level 0) p at level
+own_rest {ws} {terms} {coefficients} {ends} {rests} {orders} {rest} {p} {at} {level} m =
+    subst (λ (n : ℕ). Made ws terms coefficients ends rests orders n p at level) (sym (rest_first m.filled)) m
+
+pub making_none : {ws : List ℕ} {n : ℕ} {p : Difference} {at : ℕ} (b : Bound) (r : Held) → r ≡ begun b n
+    → Made ws n (replicate most_terms 0) (replicate most_terms 0) (replicate (suc most_terms) 0) 0 0 p at n → Making ws r p at n
+making_none {ws} {n} {p} {at} b r is m = subst (λ (x : Held). Making ws x p at n) (sym is) (own_rest m)
+
+pub making_next : {ws : List ℕ} {q : Difference} {x level : ℕ} (a d : ℕ) (r s : Held) → 0 < level → s ≡ with_level r (level - 1) a d
+    → Made ws r.terms (set r.coefficients (level - 1) a) (set r.ends (level - 1) d) (set r.rests (level - 1) (get_or r.rests level 0 + a * d)) (r.orders + d) (get_or r.rests level 0 + a * d) q x (level - 1)
+    → Making ws s q x (level - 1)
+making_next {ws} {q} {x} {level} a d r s some is m =
+    let e : level ≡ level - 1 + 1 = omega arith in
+    subst (λ (y : Held). Making ws y q x (level - 1)) (sym is)
+    (own_rest (subst (λ (n : ℕ). Made ws r.terms (set r.coefficients (level - 1) a) (set r.ends (level - 1) d) (set r.rests (level - 1) (get_or r.rests n 0 + a * d)) (r.orders + d) (get_or r.rests n 0 + a * d) q x (level - 1)) e m))
+
+-- what `put` asks
+pub put_fits : {level : ℕ} (a d : ℕ) (r : Held) → 0 < level → level ≤ most_terms → (get_or r.rests level 0 + a * d ≤ greatest_sum) × (r.orders + d ≤ most_orders)
+    → (level - 1 < most_terms) × (r.orders + d ≤ most_orders) × (get_or r.rests (level - 1 + 1) 0 + a * d ≤ greatest_sum)
+put_fits {level} a d r some h f =
+    let e : level ≡ level - 1 + 1 = omega arith in
+    (omega arith, f.1, subst (λ (n : ℕ). get_or r.rests n 0 + a * d ≤ greatest_sum) e f.0)
+
+module _ (ws : List ℕ) (ok : checked main_limits ws ≡ passed) where
   passed_all : AllPassed main_limits ws
   passed_all = checked_all main_limits ws ok
 

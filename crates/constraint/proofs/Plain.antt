@@ -8,7 +8,7 @@ use borrow.Author.Tests.{ne_eqb, lt-leb}
 use lib.IntN.{sub_ℕ}
 use lib.ListN.{length, get_or, set, replicate}
 use Rattle.word.specs.Word.{kind, payload, half, coefficient, domain_end, negated}
-use Rattle.refusal.specs.declared.Checked.TheVariants.{Passed}
+use Rattle.refusal.specs.Table.{passed}
 use Rattle.diagram.specs.Constraint.{most_terms, greatest_sum, most_orders}
 use Rattle.inequality.specs.Base.{negative_by, shift_if}
 use Rattle.constraint_bound.specs.Bound.{bound_of}
@@ -29,7 +29,7 @@ use Rattle.constraint.proofs.Made.{Made, made_none, places_known, more_fits, mad
 pub bound_own : (z : ℕ) → Natural z ≡ bound_of (sub_ℕ z 0)
 bound_own z = let e : z ≡ z - 0 = omega arith in ap Natural e ∙ sym (bound_value z 0 (omega arith))
 
-module _ (ws : List ℕ) (only : is_plain ws ≡ true) (ok : checked main_limits ws ≡ Passed) where
+module _ (ws : List ℕ) (only : is_plain ws ≡ true) (ok : checked main_limits ws ≡ passed) where
   abbrev start : Difference
   start = record { gain = payload (get_or ws 0 0); loss = 0 }
 

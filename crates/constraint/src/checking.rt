@@ -1,79 +1,63 @@
 // The checks of constraint words that go by limits, the caller's on terms and the record's: refusals 3 to 5, and 17 and 18 before them.
 ghost use Rattle.std.specs.Prelude.{◌≡◌, true, ◌≤◌, length, get_or, drop};
 ghost use Rattle.word.specs.Word.{kind};
-ghost use Rattle.constraint_words.specs.Reading.{first_item, each_from, term_checked, items_checked, checked};
+ghost use Rattle.constraint_words.specs.Reading.{first_item, each_from, count_checked, term_checked, items_checked, checked};
 ghost use Rattle.constraint_words.specs.Plain.{is_plain};
 
 use crate::Constraint;
+use constraint_words::Kind;
 use limits::{Limits, counted_as};
-use refusal::{Checked, Refusal};
+use refusal::Refusal;
 
 // Refusals 4 and 5 of an item.
-fn check_term(at: usize, w: u32) -> Checked
+fn check_term(at: usize, w: u32) -> Result<(), Refusal>
     ensures { result ≡ term_checked at w }
 {
-    if word::kind_of(w) == 2 {
-        return Checked::Passed;
+    if word::kind_of(w) == Kind::LowerEnd as u32 {
+        return Ok(());
     }
     let end = word::end_of(w);
     if end < 1 || Constraint::END < end {
-        return Checked::Refused(Refusal::DomainEnd(at));
+        return Err(Refusal::DomainEnd(at));
     }
     if word::coefficient_of(w) < 1 {
-        return Checked::Refused(Refusal::ZeroCoefficient(at));
+        return Err(Refusal::ZeroCoefficient(at));
     }
-    Checked::Passed
+    Ok(())
 }
 
-// Refusals 4 and 5 of the items.
-fn check_terms(words: &[u32], first: usize) -> Checked
-    ensures { result ≡ each_from term_checked first (drop first words.now) }
+// Refusal 3 of a number of terms, under a caller's limits.
+fn check_count(limits: Limits, words: usize, terms: usize) -> Result<(), Refusal>
+    ensures { result ≡ count_checked limits words terms }
 {
-    let mut at = first;
-    'terms: while at < words.len() {
-        match check_term(at, words[at]) {
-            Checked::Passed => {
-                at += 1;
-            }
-            Checked::Refused(x) => {
-                return Checked::Refused(x);
-            }
-        }
+    let most = counted_as(limits.terms, Constraint::TERMS);
+    if terms < 1 || most < terms {
+        return Err(Refusal::TermCount(words));
     }
-    Checked::Passed
+    Ok(())
 }
 
 // Refusals 3 to 5 of plain words.
-pub fn check_plain(limits: Limits, words: &[u32]) -> Checked
+pub fn check_plain(limits: Limits, words: &[u32]) -> Result<(), Refusal>
     requires { (kind (get_or words.now 0 0) ≡ 0) × (is_plain words.now ≡ true) }
     ensures { result ≡ checked limits words.now }
 {
     let count = words.len();
     let terms = count - 1;
-    let most = counted_as(limits.terms, Constraint::TERMS);
-    if terms < 1 || most < terms {
-        return Checked::Refused(Refusal::TermCount(count));
-    }
-    check_terms(words, 1)
+    check_count(limits, count, terms)?;
+    constraint_words::check_each(words, 1, check_term)
 }
 
 // Refusals 17, 18 and 3 to 5 of words whose items stand in their places.
-pub fn check_items(limits: Limits, words: &[u32], first: usize) -> Checked
+pub fn check_items(limits: Limits, words: &[u32], first: usize) -> Result<(), Refusal>
     requires { (first ≡ first_item words.now) × (first ≤ length words.now) }
     ensures { result ≡ items_checked limits words.now }
 {
     if first == 2 && 3 < word::payload_of(words[1]) {
-        return Checked::Refused(Refusal::WrongRelation(1));
+        return Err(Refusal::WrongRelation(1));
     }
     let terms = constraint_words::count_terms(words, first);
-    match constraint_places::check_lowers(words, first, terms) {
-        Checked::Refused(x) => Checked::Refused(x),
-        Checked::Passed => {
-            let most = counted_as(limits.terms, Constraint::TERMS);
-            if terms < 1 || most < terms {
-                return Checked::Refused(Refusal::TermCount(words.len()));
-            }
-            check_terms(words, first)
-        }
-    }
+    constraint_places::check_lowers(words, first, terms)?;
+    check_count(limits, words.len(), terms)?;
+    constraint_words::check_each(words, first, check_term)
 }

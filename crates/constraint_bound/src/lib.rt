@@ -12,7 +12,7 @@ ghost use Rattle.constraint_bound.specs.Sums.{most_bound, most_shift, most_sum, 
 
 use word::HALF;
 
-// A bound: its value, or that it is below 0.
+// A bound: its value, or that it is below 0, when no choice is allowed. (An Option would be no plainer: this is a case of its own and not a missing bound.)
 #[derive(Clone, Copy)]
 pub enum Bound {
     Negative,

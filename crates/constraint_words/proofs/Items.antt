@@ -11,9 +11,11 @@ use lib.Dec.{eqb}
 use lib.IntN.{ℤ, pos}
 use lib.ListN.{length, get_or, drop, drop_of_length-le}
 use lib.Seq.{drop-cons}
+use Rattle.std.specs.Prelude.{not, ◌==◌, count_by}
+use Rattle.std.proofs.lemmas.List.Recursion.{is_count_by}
 use Rattle.word.specs.Word.{kind, less_half}
 use Rattle.refusal.specs.Table.{and_then}
-use Rattle.refusal.specs.declared.Checked.TheVariants.{Passed}
+use Rattle.refusal.specs.Table.{passed}
 use Rattle.refusal.specs.declared.Refusal.TheVariants.{WrongKind}
 use Rattle.refusal.proofs.Passes.{refused_fails}
 use Rattle.constraint_words.specs.Reading.{has_relation, first_item, each_from, placed_from, lower_checked, term_of, terms_from}
@@ -63,6 +65,15 @@ module _ (ws : List ℕ) (at : ℕ) (within : at < length ws) where
   pub count_past_term : (kind (get_or ws at 0) ≡ 2 → ⊥) → term_count (drop at ws) ≡ suc (term_count (drop (at + 1) ws))
   count_past_term e = rw (add-one, drop-cons ws at 0) (count_term (get_or ws at 0) (drop (suc at) ws) e)
 
+-- how many they are, as a chain of iterators counts them
+pub terms_by : (us : List ℕ) → term_count us ≡ count_by (λ w. not (kind w == 2)) us
+unfolding terms_from
+terms_by = is_count_by term_count (λ w. not (kind w == 2)) refl (λ u us. go u us (kind u == 2) refl)
+  where
+    go : (u : ℕ) (us : List ℕ) (b : Bool) → (kind u == 2) ≡ b → term_count (u ∷ us) ≡ cond (not b) (1 + term_count us) (term_count us)
+    go u us true e = count_lower u us (eqb-true (kind u) 2 e)
+    go u us false e = omega (arith, count_term u us (eqb-false (kind u) 2 e))
+
 pub count_end : (ws : List ℕ) (at : ℕ) → length ws ≤ at → term_count (drop at ws) ≡ 0
 unfolding terms_from
 count_end ws at h = rw (drop_of_length-le ws h)
@@ -78,14 +89,14 @@ count_most l (u ∷ us) = go (eqb (kind u) 2) (count_most (less_half u) us) (cou
     go true p q = omega arith
     go false p q = omega arith
 
-pub no_lowers : (at : ℕ) (us : List ℕ) → term_count us ≡ length us → each_from lower_checked at us ≡ Passed
+pub no_lowers : (at : ℕ) (us : List ℕ) → term_count us ≡ length us → each_from lower_checked at us ≡ passed
 unfolding terms_from each_from
 no_lowers at [] e = refl
 no_lowers at (u ∷ us) e = go (eqb (kind u) 2) refl e (count_most (less_half u) us) (λ f. no_lowers (suc at) us f)
   where
     go : (b : Bool) → eqb (kind u) 2 ≡ b → length (cond b (terms_from (less_half u) us) (term_of (pos 0) u ∷ terms_from (pos 0) us)) ≡ suc (length us)
-        → length (terms_from (less_half u) us) ≤ length us → (term_count us ≡ length us → each_from lower_checked (suc at) us ≡ Passed)
-        → and_then (lower_checked at u) (each_from lower_checked (suc at) us) ≡ Passed
+        → length (terms_from (less_half u) us) ≤ length us → (term_count us ≡ length us → each_from lower_checked (suc at) us ≡ passed)
+        → and_then (lower_checked at u) (each_from lower_checked (suc at) us) ≡ passed
     go true k e p more = absurd (omega arith)
     go false k e p more = rw k (more (omega arith))
 
@@ -110,13 +121,13 @@ module _ (ws : List ℕ) (first : ℕ) where
   one_more true n at (b, d, q, f) e = (b, d, inr (omega arith, f, subst (λ (x : ℕ). k x ≡ 1) q e))
 
   -- one word more, where the words behind it are known
-  a_word : (due : Bool) (n at : ℕ) → at < length ws → Due due n at → placed_from due at (drop at ws) ≡ Passed
-      → ((m : ℕ) → Due false m (at + 1) → placed_from false (at + 1) (drop (at + 1) ws) ≡ Passed → Items (m + term_count (drop (at + 1) ws)) (length ws))
-      → ((m : ℕ) → Due true m (at + 1) → placed_from true (at + 1) (drop (at + 1) ws) ≡ Passed → Items (m + term_count (drop (at + 1) ws)) (length ws))
+  a_word : (due : Bool) (n at : ℕ) → at < length ws → Due due n at → placed_from due at (drop at ws) ≡ passed
+      → ((m : ℕ) → Due false m (at + 1) → placed_from false (at + 1) (drop (at + 1) ws) ≡ passed → Items (m + term_count (drop (at + 1) ws)) (length ws))
+      → ((m : ℕ) → Due true m (at + 1) → placed_from true (at + 1) (drop (at + 1) ws) ≡ passed → Items (m + term_count (drop (at + 1) ws)) (length ws))
       → Items (n + term_count (drop at ws)) (length ws)
   a_word due n at h d p behind-term behind-lower = go (eqb (k at) 1) refl (eqb (k at) 2) refl due d p
     where
-      go : (t : Bool) → eqb (k at) 1 ≡ t → (l : Bool) → eqb (k at) 2 ≡ l → (due : Bool) → Due due n at → placed_from due at (drop at ws) ≡ Passed → Items (n + term_count (drop at ws)) (length ws)
+      go : (t : Bool) → eqb (k at) 1 ≡ t → (l : Bool) → eqb (k at) 2 ≡ l → (due : Bool) → Due due n at → placed_from due at (drop at ws) ≡ passed → Items (n + term_count (drop at ws)) (length ws)
       go true e l f due d p =
           let one = eqb-true (k at) 1 e in
           let other : k at ≡ 2 → ⊥ = λ x. absurd (omega arith) in
@@ -131,18 +142,18 @@ module _ (ws : List ℕ) (first : ℕ) where
       go false e false f false d p = refused_fails (WrongKind at) (sym (placed_refused ws false at h (stands_lower false (k at) (eqb-false (k at) 1 e) refl ∙ f)) ∙ p)
       go false e l f true d p = refused_fails (WrongKind at) (sym (placed_refused ws true at h (stands_due true (k at) (eqb-false (k at) 1 e) refl)) ∙ p)
 
-  no_word : (due : Bool) (n at : ℕ) → at ≡ length ws → Due due n at → placed_from due at (drop at ws) ≡ Passed → Items (n + term_count (drop at ws)) (length ws)
+  no_word : (due : Bool) (n at : ℕ) → at ≡ length ws → Due due n at → placed_from due at (drop at ws) ≡ passed → Items (n + term_count (drop at ws)) (length ws)
   no_word false n at e d p = let m : n ≡ n + term_count (drop at ws) = omega (arith, count_end ws at (omega arith)) in
       subst (λ (x : ℕ). Items x (length ws)) m (subst (Items n) e d)
   no_word true n at e d p = refused_fails (WrongKind at) (sym (placed_end ws true at (omega arith)) ∙ p)
 
-  all_items : (left : ℕ) (due : Bool) (n at : ℕ) → at + left ≡ length ws → Due due n at → placed_from due at (drop at ws) ≡ Passed → Items (n + term_count (drop at ws)) (length ws)
+  all_items : (left : ℕ) (due : Bool) (n at : ℕ) → at + left ≡ length ws → Due due n at → placed_from due at (drop at ws) ≡ passed → Items (n + term_count (drop at ws)) (length ws)
   all_items zero due n at e d p = no_word due n at (omega arith) d p
   all_items (suc left) due n at e d p =
       a_word due n at (omega arith) d p (λ m i q. all_items left false m (at + 1) (omega arith) i q) (λ m i q. all_items left true m (at + 1) (omega arith) i q)
 
   -- WORDS IN THEIR PLACES are items to the end
-  pub placed_items : first ≤ length ws → placed_from false first (drop first ws) ≡ Passed → Items (term_count (drop first ws)) (length ws)
+  pub placed_items : first ≤ length ws → placed_from false first (drop first ws) ≡ passed → Items (term_count (drop first ws)) (length ws)
   placed_items h p =
       let m : 0 + term_count (drop first ws) ≡ term_count (drop first ws) = omega arith in
       subst (λ (x : ℕ). Items x (length ws)) m (all_items (length ws - first) false 0 first (omega arith) refl p)

@@ -4,24 +4,25 @@ use mathlib.Core.Path.{◌≡◌, refl, ap, subst, ◌∙◌}
 use mathlib.Core.Bool.{Bool, true, false, cond}
 use mathlib.Core.List.{List, [], ◌∷◌, map}
 use Prim.Native.Nat.{ℕ, zero, suc, ◌+◌, ◌-◌, ◌*◌, ◌/◌, ◌≤◌, ◌<◌}
-use native.Mathlib.Numerals.{add-one}
 use native.Mathlib.Omega.{arith}
-use borrow.Author.Tests.{eq-eqb, ne_eqb, eqb-true, leb-true, leb-false, lt-leb}
+use borrow.Author.Tests.{ne_eqb, eqb-true, leb-true, leb-false, lt-leb}
 use lib.Dec.{eqb, leb}
 use lib.IntN.{pos, +ℤ_idr}
-use lib.ListN.{length, get_or, drop, length-drop, drop_of_length-le, get_or-eq_default}
-use lib.Seq.{drop-cons, get_or-drop}
+use lib.ListN.{length, get_or, drop, length-drop, get_or-eq_default}
+use lib.Seq.{get_or-drop}
+use Rattle.std.specs.Prelude.{◌==◌, count_by}
+use Rattle.std.proofs.lemmas.List.Recursion.{is_count_by}
 use Rattle.word.specs.Word.{kind, payload, half, coefficient, domain_end}
-use Rattle.refusal.specs.declared.Checked.TheVariants.{Passed, Refused}
-use Rattle.refusal.specs.declared.Refusal.TheVariants.{TermCount}
+use Rattle.std.specs.Prelude.{Err}
+use Rattle.refusal.specs.Table.{passed}
+use Rattle.refusal.specs.declared.Refusal.{Refusal}
 use Rattle.diagram.specs.Constraint.{Term}
 use Rattle.limits.specs.declared.Limits.{Limits}
-use Rattle.limits.specs.Limits.{term_limit}
 use Rattle.inequality.specs.Written.{at_most}
 use Rattle.inequality.specs.Base.{base_term, shifts}
-use Rattle.constraint_words.specs.Reading.{up_to, has_relation, first_item, items, each_from, placed_from, lower_checked, term_checked, terms_from, terms_in, items_checked, checked, as_written, stated}
+use Rattle.constraint_words.specs.Reading.{has_relation, first_item, items, each_from, placed_from, lower_checked, count_checked, term_checked, terms_from, terms_in, items_checked, checked, as_written, stated}
 use Rattle.constraint_words.specs.Plain.{unsigned_in, is_plain}
-use Rattle.constraint_words.proofs.Checking.{stands_term, relation_none, items_3, items_terms, checked_items}
+use Rattle.constraint_words.proofs.Checking.{stands_term, relation_none, items_count, items_rest, checked_items}
 use Rattle.constraint_words.proofs.Items.{term_count, no_lowers}
 
 -- A word that is a term without a sign.
@@ -57,22 +58,18 @@ plain_at [] i a h = absurd (omega arith)
 plain_at (u ∷ us) zero a h = a.0
 plain_at (u ∷ us) (suc i) a h = plain_at us i a.1 (omega arith)
 
--- the step of counting
-pub unsigned_past : (ws : List ℕ) (at : ℕ) → at < length ws → Unsigned (get_or ws at 0) → unsigned_in (drop at ws) ≡ suc (unsigned_in (drop (at + 1) ws))
+-- how many they are, as a chain of iterators counts them
+pub unsigned_by : (ws : List ℕ) → unsigned_in ws ≡ count_by (λ w. w / half == 2) ws
 unfolding unsigned_in
-unsigned_past ws at h e = rw (add-one, drop-cons ws at 0, eq-eqb (get_or ws at 0 / half) 2 e)
-
-pub unsigned_other : (ws : List ℕ) (at : ℕ) → at < length ws → (Unsigned (get_or ws at 0) → ⊥) → unsigned_in (drop at ws) ≡ unsigned_in (drop (at + 1) ws)
-unfolding unsigned_in
-unsigned_other ws at h e = rw (add-one, drop-cons ws at 0, ne_eqb (get_or ws at 0 / half) 2 e)
-
-pub unsigned_end : (ws : List ℕ) (at : ℕ) → length ws ≤ at → unsigned_in (drop at ws) ≡ 0
-unfolding unsigned_in
-unsigned_end ws at h = rw (drop_of_length-le ws h)
+unsigned_by = is_count_by unsigned_in (λ w. w / half == 2) refl (λ w ws. go ws (w / half == 2))
+  where
+    go : (ws : List ℕ) (b : Bool) → cond b (suc (unsigned_in ws)) (unsigned_in ws) ≡ cond b (1 + unsigned_in ws) (unsigned_in ws)
+    go ws true = omega arith
+    go ws false = refl
 
 -- ---- The check
 
-placed_plain : (at : ℕ) (us : List ℕ) → AllUnsigned us → placed_from false at us ≡ Passed
+placed_plain : (at : ℕ) (us : List ℕ) → AllUnsigned us → placed_from false at us ≡ passed
 unfolding placed_from AllUnsigned
 placed_plain at [] a = refl
 placed_plain at (u ∷ us) a =
@@ -107,25 +104,25 @@ module _ (ws : List ℕ) (only : is_plain ws ≡ true) where
   first_one : first_item ws ≡ 1
   first_one = rw not_related
 
-  placed : placed_from false (first_item ws) (items ws) ≡ Passed
+  placed : placed_from false (first_item ws) (items ws) ≡ passed
   placed = rw first_one (placed_plain 1 (drop 1 ws) rest_plain)
 
   pub terms_count : length (terms_in ws) ≡ length ws - 1
   terms_count = rw first_one (count_plain (drop 1 ws) rest_plain ∙ length-drop 1 ws)
 
-  lowers : each_from lower_checked (first_item ws) (items ws) ≡ Passed
+  lowers : each_from lower_checked (first_item ws) (items ws) ≡ passed
   lowers = rw first_one (no_lowers 1 (drop 1 ws) (count_plain (drop 1 ws) rest_plain))
 
   module _ (l : Limits) (first : kind (get_or ws 0 0) ≡ 0) where
     plain_parts : checked l ws ≡ items_checked l ws
     plain_parts = checked_items l ws (omega (arith, plain_count)) first placed
 
-    pub plain_3 : up_to (term_limit l) (length ws - 1) ≡ false → checked l ws ≡ Refused (TermCount (length ws))
-    plain_3 e = plain_parts ∙ items_3 l ws (relation_none ws not_related) lowers (rw terms_count e)
+    pub plain_3 : (x : Refusal) → count_checked l (length ws) (length ws - 1) ≡ Err x → checked l ws ≡ Err x
+    plain_3 x e = plain_parts ∙ items_count l ws (relation_none ws not_related) lowers x (rw terms_count e)
 
-    pub plain_terms : up_to (term_limit l) (length ws - 1) ≡ true → checked l ws ≡ each_from term_checked 1 (drop 1 ws)
+    pub plain_terms : count_checked l (length ws) (length ws - 1) ≡ passed → checked l ws ≡ each_from term_checked 1 (drop 1 ws)
     plain_terms e =
-        plain_parts ∙ items_terms l ws (relation_none ws not_related) lowers (rw terms_count e)
+        plain_parts ∙ items_rest l ws (relation_none ws not_related) lowers (rw terms_count e)
         ∙ ap (λ (f : ℕ). each_from term_checked f (drop f ws)) first_one
 
 -- ---- The constraint

@@ -9,7 +9,7 @@ use lib.Dec.{leb, ltb}
 use lib.IntN.{ℤ, pos, nat_abs, sub_ℕ}
 use lib.ListN.{get_or, length-map}
 use Rattle.word.specs.Word.{payload, payloads, half, less_half}
-use Rattle.refusal.specs.declared.Checked.TheVariants.{Passed}
+use Rattle.refusal.specs.Table.{passed}
 use Rattle.refusal.specs.declared.Refusal.TheVariants.{LowerEnd}
 use Rattle.refusal.proofs.Passes.{both_passed, unless_passed}
 use Rattle.limits.specs.declared.Limits.{Limits}
@@ -21,7 +21,7 @@ use Rattle.constraint_words.proofs.Checking.{below_is, above_is}
 use Rattle.constraint_words.proofs.Laws.{checked_all, checked_within}
 
 -- lower ends that pass are near 0
-each_near : (l : ℤ) (at : ℕ) (ws : List ℕ) → nat_abs l ≤ farthest_lower → each_from lower_checked at ws ≡ Passed → AllNear (terms_from l ws)
+each_near : (l : ℤ) (at : ℕ) (ws : List ℕ) → nat_abs l ≤ farthest_lower → each_from lower_checked at ws ≡ passed → AllNear (terms_from l ws)
 unfolding each_from terms_from
 each_near l at [] h e = tt
 each_near l at (w ∷ ws) h e =
@@ -51,7 +51,7 @@ bound_near ws = go (has_relation ws)
     go false = omega arith
 
 -- THE RANGE
-pub stated_range : (l : Limits) (ws : List ℕ) → checked l ws ≡ Passed → nat_abs (stated ws).bound ≤ farthest_bound
+pub stated_range : (l : Limits) (ws : List ℕ) → checked l ws ≡ passed → nat_abs (stated ws).bound ≤ farthest_bound
 unfolding stated as_written
 stated_range l ws e =
     let w = checked_within l ws e in

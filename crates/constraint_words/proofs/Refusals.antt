@@ -10,8 +10,9 @@ use lib.ListN.{length, get_or, length-drop}
 use Rattle.word.specs.Word.{kind, payload, less_half, domain_end, coefficient}
 use Rattle.refusal.specs.Table.{number_of, place_of, of_words, and_then, unless}
 use Rattle.refusal.specs.declared.Refusal.{Refusal}
-use Rattle.refusal.specs.declared.Checked.{Checked}
-use Rattle.refusal.specs.declared.Checked.TheVariants.{Passed, Refused}
+use Rattle.refusal.specs.Table.{Checked}
+use Rattle.std.specs.Prelude.{Ok, Err}
+use Rattle.refusal.specs.Table.{passed}
 use Rattle.refusal.specs.declared.Refusal.TheVariants.{NoWords, WrongKind, TermCount, DomainEnd, ZeroCoefficient, WrongRelation, LowerEnd}
 use Rattle.diagram.specs.Constraint.{last_end}
 use Rattle.limits.specs.declared.Limits.{Limits}
@@ -33,12 +34,12 @@ pub record OfWords (P : Refusal → Type 0) (n : ℕ) : Type 0 where
 module _ (P : Refusal → Type 0) where
   -- What is refused has the property.
   abbrev pub Said : Checked → Type 0
-  Said Passed = Unit {0}
-  Said (Refused x) = P x
+  Said (Ok tt) = Unit {0}
+  Said (Err x) = P x
 
   said_then : (a b : Checked) → Said a → Said b → Said (and_then a b)
-  said_then Passed b p q = q
-  said_then (Refused x) b p q = p
+  said_then (Ok tt) b p q = q
+  said_then (Err x) b p q = p
 
   said_unless : (b : Bool) (x : Refusal) → P x → Said (unless b x)
   said_unless true x p = tt
@@ -67,7 +68,7 @@ module _ (P : Refusal → Type 0) where
 
     said_term : (at w : ℕ) → at ≤ n → Said (term_checked at w)
     said_term at w h =
-        said_cond (is_lower w) Passed _ tt
+        said_cond (is_lower w) passed _ tt
         (said_then (unless (up_to last_end (domain_end w)) (DomainEnd at)) (unless (leb 1 (coefficient w)) (ZeroCoefficient at))
         (said_unless (up_to last_end (domain_end w)) (DomainEnd at) (o.ends at h)) (said_unless (leb 1 (coefficient w)) (ZeroCoefficient at) (o.coefficients at h)))
 

@@ -1,10 +1,11 @@
 -- READING CONSTRAINT WORDS: what is refused and where, the constraint as written that the words state, and its base form. A list is a bound, a relation where one
 -- is given, and then the ITEMS: terms, each with its lower end before it where one is given. Assumes nothing.
-use Rattle.std.specs.Prelude.{Bool, false, not, cond, ◌&&◌, ◌||◌, List, [], ◌∷◌, ℕ, zero, suc, eqb, leb, ℤ, pos, nat_abs, length, get_or, drop}
+use Rattle.std.specs.Prelude.{◌≡◌, ◌<◌, Bool, false, not, cond, ◌&&◌, ◌||◌, List, [], ◌∷◌, ℕ, zero, suc, eqb, leb, ℤ, pos, nat_abs, length, get_or, drop}
 use Rattle.word.specs.Word.{kind, payload, less_half, domain_end, coefficient, negated}
 use Rattle.refusal.specs.Table.{and_then, unless}
-use Rattle.refusal.specs.declared.Checked.{Checked}
-use Rattle.refusal.specs.declared.Checked.TheVariants.{Passed, Refused}
+use Rattle.refusal.specs.Table.{Checked}
+use Rattle.std.specs.Prelude.{Err}
+use Rattle.refusal.specs.Table.{passed}
 use Rattle.refusal.specs.declared.Refusal.TheVariants.{NoWords, WrongKind, TermCount, DomainEnd, ZeroCoefficient, WrongRelation, LowerEnd}
 use Rattle.diagram.specs.Constraint.{Constraint, last_end}
 use Rattle.limits.specs.declared.Limits.{Limits}
@@ -32,10 +33,14 @@ items ws = drop (first_item ws) ws
 
 -- A check of each word in turn, the first of them at a place.
 unfoldable pub each_from : (ℕ → ℕ → Checked) → ℕ → List ℕ → Checked
-each_from check at [] = Passed
+each_from check at [] = passed
 each_from check at (w ∷ ws) =
     let more : Checked = each_from check (suc at) ws in
     and_then (check at w) more
+
+-- A function of a place and a word, by what its calls return, is a check.
+abbrev pub Replies : (ℕ → ℕ → Checked → Type 0) → (ℕ → ℕ → Checked) → Type 0
+Replies returns check = (at w : ℕ) (r : Checked) → at < 18446744073709551616 → w < 4294967296 → returns at w r → r ≡ check at w
 
 -- Whether a word of a kind can stand behind the items before it: a term, or a lower end where no term is due for one.
 abbrev pub can_stand : Bool → ℕ → Bool
@@ -63,7 +68,7 @@ count_checked l words n = unless (up_to (term_limit l) n) (TermCount words)
 -- Refusals 4 and 5 of an item, by its place: of a term first the domain end, then the coefficient.
 abbrev pub term_checked : ℕ → ℕ → Checked
 term_checked at w =
-    cond (is_lower w) Passed
+    cond (is_lower w) passed
     (and_then (unless (up_to last_end (domain_end w)) (DomainEnd at)) (unless (leb 1 (coefficient w)) (ZeroCoefficient at)))
 
 -- The term of a word with a lower end, and the terms of the items; the first has the lower end l if none is given.
@@ -89,7 +94,7 @@ items_checked l ws =
     (and_then (count_checked l (length ws) (length (terms_in ws))) (each_from term_checked (first_item ws) (items ws))))
 
 unfoldable pub checked : Limits → List ℕ → Checked
-checked l [] = Refused NoWords
+checked l [] = Err NoWords
 checked l (w ∷ ws) =
     and_then (unless (eqb (kind w) 0) (WrongKind 0))
     (and_then (placed_from false (first_item (w ∷ ws)) (items (w ∷ ws))) (items_checked l (w ∷ ws)))

@@ -3,13 +3,14 @@ use mathlib.Core.Path.{◌≡◌, sym, ap, ◌∙◌}
 use mathlib.Core.List.{List}
 use Prim.Native.Nat.{ℕ}
 use lib.ListN.{length}
-use Rattle.dimacs_text.specs.declared.Converted.{Converted}
+use Rattle.std.specs.Prelude.{Result}
+use Rattle.refusal.specs.declared.Refusal.{Refusal}
 use Rattle.dimacs_text.specs.Claim.{Verdict}
 use Rattle.dimacs_text.specs.Reply.{words_reply, words_said, converted_left}
 use Rattle.dimacs_text.proofs.Verdicts.{says_one}
 use Rattle.dimacs_reader.specs.Reads.{Reads}
 
-pub reads_one : (text out a b : List ℕ) (r s : Converted) → Reads text out a r → Reads text out b s → (r ≡ s) × (a ≡ b)
+pub reads_one : (text out a b : List ℕ) (r s : Result ℕ Refusal) → Reads text out a r → Reads text out b s → (r ≡ s) × (a ≡ b)
 reads_one text out a b r s p q =
     let e : p.verdict ≡ q.verdict = says_one text p.verdict q.verdict p.says q.says in (
       p.reply.same ∙ ap (λ (v : Verdict). words_reply v (length out)) e ∙ sym q.reply.same,

@@ -2,54 +2,52 @@
 #![tactic(auto)]
 
 ghost use Rattle.std.specs.Prelude.{◌≡◌, set};
-ghost use Rattle.dimacs_reader.specs.Reads.{Reads};
+ghost use Rattle.dimacs_reader.specs.Reads.{Puts, Reads};
 
 use dimacs_step::Next;
-use dimacs_text::Converted;
 use refusal::Refusal;
 
 // A word stored at a place, where there is room.
 fn store(out: &mut [u32], at: usize, w: u32)
     ensures { out.new ≡ set out.old at w }
 {
+    // Tried and not proved with get_mut: behind a slice's get_mut no element is known.
     if at < out.len() {
         out[at] = w;
     }
 }
 
-// The clause words that the text says, or the refusal of a text that is not DIMACS or says more words than find room.
-pub fn read(text: &[u8], out: &mut [u32]) -> Converted
-    ensures { Reads text.now out.old out.new result }
+// The clause words that the text says, put in from the start of the list: their count, or why the text is refused.
+fn put_words(text: &[u8], out: &mut [u32]) -> Result<usize, Refusal>
+    ensures { Puts text.now out.old out.new result }
 {
     let mut s = dimacs_step::start();
     let mut n: usize = 0;
-    let mut i: usize = 0;
-    'bytes: while i < text.len() {
-        let next = dimacs_step::step(s, text[i]);
-        match next {
-            Next::Bad => {
-                word::clear(out, 0);
-                return Converted::Refused(Refusal::NotDimacs(i));
-            }
-            Next::On(t) => {
-                s = t;
-            }
+    for (i, &b) in text.iter().enumerate() {
+        match dimacs_step::step(s, b) {
+            Next::Bad => return Err(Refusal::NotDimacs(i)),
+            Next::On(t) => s = t,
             Next::Put(t, w) => {
                 s = t;
                 store(out, n, w);
                 n += 1;
             }
         }
-        i += 1;
     }
-    if dimacs_step::is_final(s) {
-        if out.len() < n {
-            word::clear(out, 0);
-            return Converted::Refused(Refusal::NoRoom);
-        }
-        word::clear(out, n);
-        return Converted::Length(n);
+    if !dimacs_step::is_final(s) {
+        return Err(Refusal::NotDimacs(text.len()));
     }
-    word::clear(out, 0);
-    Converted::Refused(Refusal::NotDimacs(i))
+    if out.len() < n {
+        return Err(Refusal::NoRoom);
+    }
+    Ok(n)
+}
+
+// The clause words that the text says, with zeros behind them, or the refusal of a text that is not DIMACS or says more words than find room; it leaves zeros.
+pub fn read(text: &[u8], out: &mut [u32]) -> Result<usize, Refusal>
+    ensures { Reads text.now out.old out.new result }
+{
+    let reply = put_words(text, out);
+    word::fill_from(out, reply.unwrap_or(0), 0);
+    reply
 }

@@ -4,18 +4,18 @@ use mathlib.Core.List.{List}
 use Prim.Native.Nat.{ℕ, ◌≤◌, ◌<◌}
 use lib.ListN.{length}
 use borrow.Author.Tests.{le-leb, lt-leb}
+use Rattle.refusal.specs.declared.Refusal.{Refusal}
 use Rattle.refusal.specs.declared.Refusal.TheVariants.{NoRoom}
-use Rattle.dimacs_text.specs.declared.Converted.{Converted}
-use Rattle.dimacs_text.specs.declared.Converted.TheVariants.{Length, Refused}
+use Rattle.std.specs.Prelude.{Result, Ok, Err}
 use Rattle.dimacs_text.specs.Claim.{wrong}
 use Rattle.dimacs_text.specs.Reply.{converted_values, fitted, words_reply, converted_left}
 
 module _ (xs : List ℕ) (room : ℕ) where
-  pub fitted_in : length xs ≤ room → fitted xs room ≡ Length (length xs)
+  pub fitted_in : length xs ≤ room → fitted xs room ≡ Ok (length xs)
   unfolding fitted
   fitted_in h = rw (le-leb (length xs) room h)
 
-  pub fitted_out : room < length xs → fitted xs room ≡ Refused NoRoom
+  pub fitted_out : room < length xs → fitted xs room ≡ Err NoRoom
   unfolding fitted
   fitted_out h = rw (lt-leb (length xs) room h)
 
@@ -31,5 +31,5 @@ pub values_wrong : (k room : ℕ) → converted_values (words_reply (wrong k) ro
 values_wrong k room = refl
 
 -- the list after a reply that is known
-pub left_as : (r s : Converted) (room : ℕ) (xs : List ℕ) → r ≡ s → converted_left s room xs ≡ converted_left r room xs
-left_as r s room xs e = sym (ap (λ (x : Converted). converted_left x room xs) e)
+pub left_as : (r s : Result ℕ Refusal) (room : ℕ) (xs : List ℕ) → r ≡ s → converted_left s room xs ≡ converted_left r room xs
+left_as r s room xs e = sym (ap (λ (x : Result ℕ Refusal). converted_left x room xs) e)

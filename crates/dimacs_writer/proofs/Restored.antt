@@ -10,7 +10,7 @@ use lib.Dec.{eqb}
 use lib.ListN.{length, length-append}
 use borrow.Author.Tests.{eqb-true, eqb-false, eq-eqb, ne_eqb}
 use Rattle.word.specs.Word.{kind, boolean, negated, last_boolean, last_count, end_word}
-use Rattle.refusal.specs.declared.Checked.TheVariants.{Passed}
+use Rattle.refusal.specs.Table.{passed}
 use Rattle.text.specs.Decimal.{decimal}
 use Rattle.text.proofs.Decimals.{digits_few, decimal_most}
 use Rattle.clause.specs.Check.{list_from}
@@ -88,7 +88,7 @@ lines n l f b (w ∷ ws) k (inr h) g = rw (no_end_lem w h.0) (at (lines n (suc l
         (subst (λ (m : ℕ). Numbers n false (suc l) m (32 ∷ body ws) ws) (sym some) r))
 
 -- THE WRITTEN FORM IS LEGAL TEXT that says its list
-pub written_legal : (ws : List ℕ) → length ws ≤ most_clauses → list_from last_boolean 0 0 ws ≡ Passed → Legal (written ws) ws
+pub written_legal : (ws : List ℕ) → length ws ≤ most_clauses → list_from last_boolean 0 0 ws ≡ passed → Legal (written ws) ws
 written_legal ws few e =
     ([], _, refl, (true, none), (112 ∷ [], _, refl, refl, (32 ∷ [], _, refl, one, (99 ∷ 110 ∷ 102 ∷ [], _, refl, refl, (32 ∷ [], _, refl, one, first)))))
   where

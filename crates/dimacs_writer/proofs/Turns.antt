@@ -32,17 +32,17 @@ pub record Surveyed (ws : List ℕ) (most clauses at : ℕ) : Type 0 where
 pub survey_none : (ws : List ℕ) → Surveyed ws 0 0 0
 survey_none ws = record { within = omega arith; fewer = omega arith; top = omega arith; many = omega arith }
 
-module _ {ws : List ℕ} {most clauses at : ℕ} (h : at < length ws) (s : Surveyed ws most clauses at) where
-  pub survey_end : kind (get_or ws at 0) ≡ 3 → Surveyed ws most (clauses + 1) (at + 1)
+module _ {ws : List ℕ} {most clauses at : ℕ} (h : at < length ws) (s : Surveyed ws most clauses at) {most' clauses' : ℕ} where
+  pub survey_end : kind (get_or ws at 0) ≡ 3 → most' ≡ most → clauses' ≡ clauses + 1 → Surveyed ws most' clauses' (at + 1)
   unfolding greatest clause_count
-  survey_end e =
+  survey_end e m n =
       let t : greatest (drop at ws) ≡ greatest (drop (at + 1) ws) = rw (drop-cons ws at 0 h, eq-eqb (kind (get_or ws at 0)) 3 e, add-one) in
       let c : clause_count (drop at ws) ≡ suc (clause_count (drop (at + 1) ws)) = rw (drop-cons ws at 0 h, eq-eqb (kind (get_or ws at 0)) 3 e, add-one) in
       record { within = omega arith; fewer = omega (arith, s.fewer); top = omega (arith, s.top, t); many = omega (arith, s.many, c) }
 
-  pub survey_literal : (more : ℕ) → ¬ (kind (get_or ws at 0) ≡ 3) → more ≡ max most (boolean (get_or ws at 0)) → Surveyed ws more clauses (at + 1)
+  pub survey_literal : ¬ (kind (get_or ws at 0) ≡ 3) → most' ≡ max most (boolean (get_or ws at 0)) → clauses' ≡ clauses → Surveyed ws most' clauses' (at + 1)
   unfolding greatest clause_count
-  survey_literal more e m =
+  survey_literal e m n =
       let t : greatest (drop at ws) ≡ max (boolean (get_or ws at 0)) (greatest (drop (at + 1) ws)) =
       rw (drop-cons ws at 0 h, ne_eqb (kind (get_or ws at 0)) 3 e, add-one) in
       let c : clause_count (drop at ws) ≡ clause_count (drop (at + 1) ws) = rw (drop-cons ws at 0 h, ne_eqb (kind (get_or ws at 0)) 3 e, add-one) in

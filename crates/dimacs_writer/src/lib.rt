@@ -1,15 +1,14 @@
 // A clause list written as DIMACS text into lent bytes.
 #![tactic(auto)]
 
-ghost use Rattle.std.specs.Prelude.{◌≡◌, not, leb, length, replicate};
+ghost use Rattle.std.specs.Prelude.{◌≡◌, not, leb, length, take, IfOk};
+ghost use Rattle.dimacs_text.specs.Reply.{text_reply};
 ghost use Rattle.text.specs.Cut.{Wrote};
 ghost use Rattle.dimacs_text.specs.Text.{sign};
 ghost use Rattle.dimacs_text.specs.Written.{header, word_text, written};
-ghost use Rattle.dimacs_text.specs.declared.Converted.TheVariants.{Refused};
 ghost use Rattle.dimacs_writer.specs.Writes.{headed, text_under, Writes};
 
-use dimacs_text::Converted;
-use refusal::{Checked, Refusal};
+use refusal::Refusal;
 use word::LAST_BOOLEAN;
 
 // The Booleans that a list may name: all that a literal can hold.
@@ -25,23 +24,18 @@ pub struct Header {
     pub clauses: usize,
 }
 
-// The header's numbers, from all the words.
+// The header's numbers, from all the words. (Here and below a kind is held against the format's number 3: all that is asked is whether a word ends a clause, and a
+// `match` on `ClauseWord` would be no plainer.)
 fn survey(words: &[u32]) -> Header
     ensures { result ≡ headed words.now }
 {
     let mut most = 0;
     let mut clauses = 0;
-    let mut at = 0;
-    'words: while at < words.len() {
-        let w = words[at];
-        at += 1;
+    for &w in words {
         if word::kind_of(w) == 3 {
             clauses += 1;
-            continue 'words;
-        }
-        let v = word::boolean_of(w).0;
-        if most < v {
-            most = v;
+        } else {
+            most = most.max(word::boolean_of(w).0);
         }
     }
     Header { most, clauses }
@@ -70,14 +64,12 @@ fn fits(words: &[u32], h: Header, room: usize) -> bool
         return false;
     }
     let mut rest = room - first;
-    let mut at = 0;
-    'words: while at < words.len() {
-        let n = width(words[at]);
+    for &w in words {
+        let n = width(w);
         if rest < n {
             return false;
         }
         rest -= n;
-        at += 1;
     }
     true
 }
@@ -122,10 +114,8 @@ fn put_list(out: &mut [u8], words: &[u32], h: Header) -> usize
     ensures { Wrote (text_under h words.now) 0 out.old out.new result }
 {
     let mut at = put_header(out, h);
-    let mut i = 0;
-    'words: while i < words.len() {
-        at = put_word(out, at, words[i]);
-        i += 1;
+    for &w in words {
+        at = put_word(out, at, w);
     }
     at
 }
@@ -138,29 +128,25 @@ pub fn put_text(out: &mut [u8], words: &[u32]) -> usize
     put_list(out, words, h)
 }
 
-// A refusal, which leaves zeros.
-fn refuse(x: Refusal, out: &mut [u8]) -> Converted
-    ensures value { result ≡ Refused x }
-    ensures out_after { out.new ≡ replicate (length out.old) 0 }
+// The text of a clause list at the start of the room: its length, or why there is none.
+fn put_checked(out: &mut [u8], words: &[u32]) -> Result<usize, Refusal>
+    ensures reply { result ≡ text_reply words.now (length out.old) }
+    ensures front { IfOk result (λ n. (take n out.new ≡ written words.now) × (length (written words.now) ≡ n)) }
+    ensures kept { length out.new ≡ length out.old }
 {
-    text::clear(out, 0);
-    Converted::Refused(x)
+    tester::check_list(KNOWN, words)?;
+    let h = survey(words);
+    if !fits(words, h, out.len()) {
+        return Err(Refusal::NoRoom);
+    }
+    Ok(put_list(out, words, h))
 }
 
 // Writes a clause list at the start of the room, with zeros behind it, and gives the text's length; a refusal leaves zeros.
-pub fn write(words: &[u32], out: &mut [u8]) -> Converted
+pub fn write(words: &[u32], out: &mut [u8]) -> Result<usize, Refusal>
     ensures { Writes words.now out.old out.new result }
 {
-    match tester::check_list(KNOWN, words) {
-        Checked::Refused(x) => refuse(x, out),
-        Checked::Passed => {
-            let h = survey(words);
-            if !fits(words, h, out.len()) {
-                return refuse(Refusal::NoRoom, out);
-            }
-            let n = put_list(out, words, h);
-            text::clear(out, n);
-            Converted::Length(n)
-        }
-    }
+    let reply = put_checked(out, words);
+    word::fill_from(out, reply.unwrap_or(0), 0);
+    reply
 }

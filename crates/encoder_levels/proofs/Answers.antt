@@ -1,4 +1,5 @@
 -- THE REPLY BY ITS TESTS: the diagram's own counts from the sum over its records, which test decides, and the reply with its lists. Assumes nothing.
+use Rattle.std.proofs.Common.{Result, Ok, Err}
 use mathlib.Core.Path.{◌≡◌, sym, ap, subst}
 use mathlib.Core.List.{List}
 use Prim.Native.Nat.{ℕ, ◌+◌, ◌*◌, ◌-◌, ◌≤◌, ◌<◌}
@@ -21,8 +22,6 @@ use Rattle.constraint.proofs.Slices.{levels_count}
 use Rattle.linker.specs.Sum.{end_sum, Countable}
 use Rattle.linker.proofs.Laws.{order_words_lem, table_countable, edge_sum, word_sum}
 use Rattle.filler.specs.declared.Counts.{Counts}
-use Rattle.encoder_levels.specs.declared.Encoded.{Encoded}
-use Rattle.encoder_levels.specs.declared.Encoded.TheVariants.{Accepted, Refused}
 use Rattle.encoder_levels.specs.Reply.{capacity, counts_within}
 use Rattle.filler.specs.Filled.{levels_in, nodes_for, constraint_of, counts_by, Tabled, Roomy, Filled}
 use Rattle.encoder_levels.specs.Passes.{Cleared, Answered}
@@ -33,32 +32,32 @@ abbrev pub counts_of : Constraint → Counts
 counts_of c = record { nodes = length (nodes_for c); edges = edge_count (levels_in c) (nodes_for c); words = word_count (levels_in c) (nodes_for c) }
 
 module _ (l : Limits) (c : Constraint) (t e w : ℕ) where
-  pub refuse_6 : capacity l t < length (nodes_for c) → counts_within l c t e w ≡ Refused TooManyNodes
+  pub refuse_6 : capacity l t < length (nodes_for c) → counts_within l c t e w ≡ Err TooManyNodes
   unfolding counts_within
   refuse_6 h = rw (lt-ltb (capacity l t) (length (nodes_for c)) h)
 
   module _ (h : length (nodes_for c) ≤ capacity l t) where
-    pub refuse_7 : e < edge_count (levels_in c) (nodes_for c) → counts_within l c t e w ≡ Refused TooManyEdges
+    pub refuse_7 : e < edge_count (levels_in c) (nodes_for c) → counts_within l c t e w ≡ Err TooManyEdges
     unfolding counts_within
     refuse_7 k = rw (le-ltb (capacity l t) (length (nodes_for c)) h, lt-ltb e (edge_count (levels_in c) (nodes_for c)) k)
 
     module _ (k : edge_count (levels_in c) (nodes_for c) ≤ e) where
-      pub refuse_8 : w < word_count (levels_in c) (nodes_for c) → counts_within l c t e w ≡ Refused TooManyWords
+      pub refuse_8 : w < word_count (levels_in c) (nodes_for c) → counts_within l c t e w ≡ Err TooManyWords
       unfolding counts_within
       refuse_8 m = rw (le-ltb (capacity l t) (length (nodes_for c)) h, le-ltb e (edge_count (levels_in c) (nodes_for c)) k, lt-ltb w (word_count (levels_in c) (nodes_for c)) m)
 
-      pub accept : word_count (levels_in c) (nodes_for c) ≤ w → counts_within l c t e w ≡ Accepted (counts_of c)
+      pub accept : word_count (levels_in c) (nodes_for c) ≤ w → counts_within l c t e w ≡ Ok (counts_of c)
       unfolding counts_within
       accept m = rw (le-ltb (capacity l t) (length (nodes_for c)) h, le-ltb e (edge_count (levels_in c) (nodes_for c)) k, le-ltb w (word_count (levels_in c) (nodes_for c)) m)
 
 -- a reply with zeroed lists, and one with filled lists
-pub refused_answer : (l : Limits) (c : Constraint) (x : Refusal) (t e w t' e' w' : List ℕ) (r : Encoded) → counts_within l c (length t) (length e) (length w) ≡ Refused x
+pub refused_answer : (l : Limits) (c : Constraint) (x : Refusal) (t e w t' e' w' : List ℕ) (r : Result Counts Refusal) → counts_within l c (length t) (length e) (length w) ≡ Err x
     → Cleared x t e w t' e' w' r → Answered l c t e w t' e' w' r
 refused_answer l c x t e w t' e' w' r q C =
     subst (Answered l c t e w t' e' w') (sym C.reply) (record { reply = sym q; table = C.table; edges = C.edges; clauses = C.clauses })
 
-pub accepted_answer : (l : Limits) (c : Constraint) (n : Counts) (t e w t' e' w' : List ℕ) → counts_within l c (length t) (length e) (length w) ≡ Accepted n
-    → Filled c t e w t' e' w' → Answered l c t e w t' e' w' (Accepted n)
+pub accepted_answer : (l : Limits) (c : Constraint) (n : Counts) (t e w t' e' w' : List ℕ) → counts_within l c (length t) (length e) (length w) ≡ Ok n
+    → Filled c t e w t' e' w' → Answered l c t e w t' e' w' (Ok n)
 accepted_answer l c n t e w t' e' w' q F = record { reply = sym q; table = F.table; edges = F.edges; clauses = F.clauses }
 
 -- ---- The counts from the sum over the records

@@ -1,4 +1,7 @@
 -- THE BUILT TABLE inside the lent one: the diagram's records stand at its front, whatever stands behind the capacity. Assumes nothing.
+use Rattle.refusal.specs.declared.Refusal.{Refusal}
+use Rattle.filler.specs.declared.Counts.{Counts}
+use Rattle.std.proofs.Common.{Result}
 use mathlib.Core.Path.{◌≡◌, refl, sym, ap, ap₂, subst, ◌∙◌}
 use mathlib.Core.List.{List, [], ◌++◌, map}
 use Prim.Native.Nat.{ℕ, ◌*◌, ◌/◌, ◌≤◌, ◌<◌}
@@ -21,7 +24,6 @@ use Rattle.constraint_bound.specs.declared.Bound.{Bound}
 use Rattle.constraint_bound.specs.declared.Bound.TheVariants.{Natural, Negative}
 use Rattle.constraint_bound.specs.Bound.{bound_of}
 use Rattle.diagram.specs.Constraint.{Constraint}
-use Rattle.encoder_levels.specs.declared.Encoded.{Encoded}
 use Rattle.encoder_levels.specs.Reply.{capacity, counts_within}
 use Rattle.filler.specs.Filled.{nodes_for, root_for, constraint_of, Tabled}
 use Rattle.encoder_levels.specs.Passes.{Cleared, left_in, Answered}
@@ -113,7 +115,7 @@ pub recounted : (c : Constraint) {D n : ℕ} (e : Edge) (t : List ℕ) (count : 
 recounted c e t count is B = subst (λ (m : ℕ). Tabled c m e t count) (sym is) B
 
 -- of the table and the clause buffer an answer depends on the lengths alone
-pub same_answer : (l : Limits) (cs ds : List ℕ) (a : ℤ) (t u e w v t' e' w' : List ℕ) (r : Encoded) → length u ≡ length t → length v ≡ length w → Answered l (constraint_of cs ds a) u e v t' e' w' r
+pub same_answer : (l : Limits) (cs ds : List ℕ) (a : ℤ) (t u e w v t' e' w' : List ℕ) (r : Result Counts Refusal) → length u ≡ length t → length v ≡ length w → Answered l (constraint_of cs ds a) u e v t' e' w' r
     → Answered l (constraint_of cs ds a) t e w t' e' w' r
 same_answer l cs ds a t u e w v t' e' w' r h m A =
     record {
@@ -124,7 +126,7 @@ same_answer l cs ds a t u e w v t' e' w' r h m A =
     }
 
 -- more nodes than the capacity
-pub full_answer : (l : Limits) (cs ds : List ℕ) (a : ℤ) (t u e w v t' e' w' : List ℕ) (r : Encoded) → capacity l (length t) < length (nodes_for (constraint_of cs ds a)) → length u ≡ length t
+pub full_answer : (l : Limits) (cs ds : List ℕ) (a : ℤ) (t u e w v t' e' w' : List ℕ) (r : Result Counts Refusal) → capacity l (length t) < length (nodes_for (constraint_of cs ds a)) → length u ≡ length t
     → length v ≡ length w → Cleared TooManyNodes u e v t' e' w' r → Answered l (constraint_of cs ds a) t e w t' e' w' r
 full_answer l cs ds a t u e w v t' e' w' r h n m C =
     same_answer l cs ds a t u e w v t' e' w' r n m

@@ -8,28 +8,21 @@ ghost use Rattle.encoding.specs.Boolean.{orders as orders'};
 ghost use Rattle.limits.specs.declared.Limits.{Limits as Limits'};
 ghost use Rattle.limits.specs.Limits.{node_limit};
 ghost use Rattle.constraint_bound.specs.Bound.{bound_of};
-ghost use Rattle.constraint.specs.Lent.{levels_of, Lent};
+ghost use Rattle.constraint.specs.Lent.{levels_of};
 ghost use Rattle.builder.specs.Built.{RootOk};
 ghost use Rattle.encoder_levels.specs.Reply.{capacity};
 ghost use Rattle.encoder_levels.specs.Passes.{Cleared, DrawnFor, Answered};
-ghost use Rattle.filler.specs.Filled.{constraint_of, Tabled};
+ghost use Rattle.filler.specs.Filled.{constraint_of, SameReferences, Tabled};
 
-use builder::Root;
+use constraint::Levels;
 use constraint_bound::Bound;
-use filler::Counts;
+use filler::{Counts, LentLists};
 use limits::Limits;
 use refusal::Refusal;
 use word::{Child, NODES, NodeNumber, RECORD, Remainder};
 
 // The words that a call has of its own for merging.
 const OWN: usize = 64;
-
-// The reply: the counts, or why the words or the lent memory are refused.
-#[derive(Drop)]
-pub enum Encoded {
-    Accepted(Counts),
-    Refused(Refusal),
-}
 
 // The root of a drawn table, and the number of its nodes.
 #[derive(Drop)]
@@ -38,146 +31,119 @@ struct Top {
     nodes: usize,
 }
 
-// A drawn table, or one without room for all nodes.
-#[derive(Drop)]
-enum Drawn {
-    Full,
-    Rooted(Top),
-}
-
 // The node capacity of a table of n words.
 fn room(limits: Limits, n: usize) -> usize
     ensures { result ≡ capacity limits n }
 {
-    let full = n / RECORD;
     let most = limits::counted_as(limits.nodes, NODES);
-    if full < most { full } else { most }
+    (n / RECORD).min(most)
 }
 
 // All three lists zeroed, and the refusal.
-fn refuse(x: Refusal, table: &mut [u32], edges: &mut [u32], clauses: &mut [u32]) -> Encoded
-    ensures { Cleared x table.old edges.old clauses.old table.new edges.new clauses.new result }
+fn refuse(x: Refusal, lists: &mut LentLists<'_>) -> Result<Counts, Refusal>
+    ensures same_references { SameReferences lists.old lists.new }
+    ensures cleared { Cleared x lists.old.table.now lists.old.edges.now lists.old.clauses.now lists.new.table.now lists.new.edges.now lists.new.clauses.now result }
 {
-    word::clear(table, 0);
-    word::clear(edges, 0);
-    word::clear(clauses, 0);
-    Encoded::Refused(x)
+    word::fill_from(lists.table, 0, 0);
+    word::fill_from(lists.edges, 0, 0);
+    word::fill_from(lists.clauses, 0, 0);
+    Err(x)
 }
 
 // Refusals 7 and 8 by the diagram's own counts, or the lists filled, for a table that is built within the limits.
-fn finish<'a>(
-    coefs: &'a [u32],
-    ends: &'a [u32],
-    rests: &'a [u32],
+fn finish(
+    levels: Levels<'_>,
     orders: u32,
-    root: Child,
-    nodes: usize,
-    table: &mut [u32],
-    edges: &mut [u32],
-    clauses: &mut [u32],
-) -> Encoded
-    requires lent { Lent coefs.now ends.now rests.now }
-    requires tabled { (a : ℤ) × Tabled (constraint_of coefs.now ends.now a) orders (edge_of root) table.old nodes }
-    ensures { (l : Limits') (a : ℤ) → nodes ≤ node_limit l → Tabled (constraint_of coefs.now ends.now a) orders (edge_of root) table.old nodes
-        → Answered l (constraint_of coefs.now ends.now a) table.old edges.old clauses.old table.new edges.new clauses.new result }
+    top: Top,
+    lists: &mut LentLists<'_>,
+) -> Result<Counts, Refusal>
+    requires { (a : ℤ) × Tabled (constraint_of levels.coefficients.now levels.ends.now a) orders (edge_of top.root) lists.old.table.now top.nodes }
+    ensures same_references { SameReferences lists.old lists.new }
+    ensures answered { (l : Limits') (a : ℤ) → top.nodes ≤ node_limit l → Tabled (constraint_of levels.entry.coefficients.now levels.entry.ends.now a) orders (edge_of top.root) lists.old.table.now top.nodes
+        → Answered l (constraint_of levels.entry.coefficients.now levels.entry.ends.now a) lists.old.table.now lists.old.edges.now lists.old.clauses.now lists.new.table.now lists.new.edges.now lists.new.clauses.now result }
 {
-    let counts = filler::count(ends, orders, table, nodes);
-    if edges.len() < counts.edges {
-        return refuse(Refusal::TooManyEdges, table, edges, clauses);
+    let table = &mut *lists.table;
+    let counts = filler::count(levels.ends, orders, table, top.nodes);
+    if lists.edges.len() < counts.edges {
+        return refuse(Refusal::TooManyEdges, lists);
     }
-    if clauses.len() < counts.words {
-        return refuse(Refusal::TooManyWords, table, edges, clauses);
+    if lists.clauses.len() < counts.words {
+        return refuse(Refusal::TooManyWords, lists);
     }
-    filler::fill(
-        coefs, ends, rests, orders, root, counts, table, edges, clauses,
-    );
-    Encoded::Accepted(counts)
+    filler::fill(levels, orders, top.root, counts, lists);
+    Ok(counts)
 }
 
 // The root of an undecided bound's diagram, which is built into the table. Until the clauses are written, their words serve for merging and for guesses; where
 // they are few, some of the call's own do.
-fn build_root<'a>(
-    coefs: &'a [u32],
-    ends: &'a [u32],
-    rests: &'a [u32],
+fn build_root(
+    levels: Levels<'_>,
     table: &mut [u32],
     clauses: &mut [u32],
     bound: Remainder,
-) -> Root
-    requires { Lent coefs.now ends.now rests.now × (bound.0 < R (levels_of coefs.now ends.now)) }
-    ensures { RootOk coefs.now ends.now bound.0 table.old table.new result }
+) -> Option<usize>
+    requires { bound.0 < R (levels_of levels.coefficients.now levels.ends.now) }
+    ensures { RootOk levels.entry.coefficients.now levels.entry.ends.now bound.0 table.old table.new result }
 {
     if clauses.len() < OWN {
         let mut own = [0u32; OWN];
-        return builder::build(coefs, ends, rests, table, &mut own[..], bound);
+        return builder::build(levels, table, &mut own[..], bound);
     }
-    builder::build(coefs, ends, rests, table, clauses, bound)
+    builder::build(levels, table, clauses, bound)
 }
 
-// What is drawn into the table for a bound: below 0 it makes the root F, from the greatest sum on T, both without nodes; else it is undecided, and its diagram is
-// built into the table's capacity under the limits. The undecided bound stands first, which the compiler goes by: so it takes the search into the building
-// and not into the linking.
-fn draw<'a>(
+// What is drawn into the table for a bound, or none without room for all nodes: below 0 it makes the root F, from the greatest sum on T, both without nodes;
+// else it is undecided, and its diagram is built into the table's capacity under the limits. The undecided bound stands first, which the compiler goes by: so it
+// takes the search into the building and not into the linking.
+fn draw(
     limits: Limits,
-    coefs: &'a [u32],
-    ends: &'a [u32],
-    rests: &'a [u32],
+    levels: Levels<'_>,
     bound: Bound,
     table: &mut [u32],
     clauses: &mut [u32],
-) -> Drawn
-    requires { Lent coefs.now ends.now rests.now }
-    ensures { (a : ℤ) → bound ≡ bound_of a → DrawnFor limits coefs.now ends.now a table.old table.new result }
+) -> Option<Top>
+    ensures { (a : ℤ) → bound ≡ bound_of a → DrawnFor limits levels.entry.coefficients.now levels.entry.ends.now a table.old table.new result }
 {
     match bound {
         Bound::Natural(b) => {
-            if b < rests[0] as u64 {
+            if b < levels.rests[0] as u64 {
                 let past = room(limits, table.len()) * RECORD;
                 let r = Remainder(b as u32);
-                return match build_root(coefs, ends, rests, &mut table[..past], clauses, r) {
-                    Root::Full => Drawn::Full,
-                    Root::Node(n) => Drawn::Rooted(Top {
-                        root: Child::Node(NodeNumber(0)),
-                        nodes: n,
-                    }),
-                };
+                let nodes = build_root(levels, &mut table[..past], clauses, r)?;
+                return Some(Top {
+                    root: Child::Node(NodeNumber(0)),
+                    nodes,
+                });
             }
-            Drawn::Rooted(Top {
+            Some(Top {
                 root: Child::True,
                 nodes: 0,
             })
         }
-        Bound::Negative => Drawn::Rooted(Top {
+        Bound::Negative => Some(Top {
             root: Child::False,
             nodes: 0,
         }),
     }
 }
 
-// The reply for the constraint of the slices: what is drawn, and the lists filled from it.
-pub fn encode_levels<'a>(
+// The reply for the constraint of the levels: what is drawn, and the lists filled from it.
+pub fn encode_levels(
     limits: Limits,
-    coefs: &'a [u32],
-    ends: &'a [u32],
-    rests: &'a [u32],
+    levels: Levels<'_>,
     orders: u32,
     bound: Bound,
-    table: &mut [u32],
-    edges: &mut [u32],
-    clauses: &mut [u32],
-) -> Encoded
-    requires lent { Lent coefs.now ends.now rests.now }
-    requires orders_value { orders ≡ orders' (levels_of coefs.now ends.now) }
-    ensures { (a : ℤ) → bound ≡ bound_of a
-        → Answered limits (constraint_of coefs.now ends.now a) table.old edges.old clauses.old table.new edges.new clauses.new result }
+    lists: &mut LentLists<'_>,
+) -> Result<Counts, Refusal>
+    requires { orders ≡ orders' (levels_of levels.coefficients.now levels.ends.now) }
+    ensures same_references { SameReferences lists.old lists.new }
+    ensures answered { (a : ℤ) → bound ≡ bound_of a
+        → Answered limits (constraint_of levels.entry.coefficients.now levels.entry.ends.now a) lists.old.table.now lists.old.edges.now lists.old.clauses.now lists.new.table.now lists.new.edges.now lists.new.clauses.now result }
 {
-    match draw(limits, coefs, ends, rests, bound, table, clauses) {
-        Drawn::Full => refuse(Refusal::TooManyNodes, table, edges, clauses),
-        Drawn::Rooted(x) => {
-            let root = x.root;
-            finish(
-                coefs, ends, rests, orders, root, x.nodes, table, edges, clauses,
-            )
-        }
-    }
+    let table = &mut *lists.table;
+    let clauses = &mut *lists.clauses;
+    let Some(top) = draw(limits, levels, bound, table, clauses) else {
+        return refuse(Refusal::TooManyNodes, lists);
+    };
+    finish(levels, orders, top, lists)
 }

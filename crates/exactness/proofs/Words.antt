@@ -9,7 +9,7 @@ use lib.IntN.{ℤ}
 use lib.ListN.{length}
 use Rattle.word.specs.Word.{last_boolean}
 use Rattle.word.specs.Edge.{Edge}
-use Rattle.refusal.specs.declared.Checked.TheVariants.{Passed}
+use Rattle.refusal.specs.Table.{passed}
 use Rattle.diagram.specs.Level.{Level, AllAscend}
 use Rattle.diagram.specs.Table.{Node}
 use Rattle.diagram.specs.Right.{Right}
@@ -49,7 +49,7 @@ module _ (S T : Values → Type 0) (D : ℕ) (bs : List ℕ) (z : Outcome) (same
 
 -- ANY RIGHT DRAWING whose last Boolean fits its word
 module _ (ls : List Level) (a : ℤ) (ns : List Node) (top : Edge) (g : AllAscend ls) (r : Right ls a ns top) (fits : orders ls + 2 + length ns ≤ last_boolean)
-    (bs : List ℕ) (listed : list_from (length bs) 0 0 (clause_words ls top ns) ≡ Passed) (legal : Bytes bs)
+    (bs : List ℕ) (listed : list_from (length bs) 0 0 (clause_words ls top ns) ≡ passed) (legal : Bytes bs)
     (aux : AuxiliaryOpen (orders ls) (length ns) bs) where
   abbrev last : ℕ
   last = orders ls + 2 + length ns
@@ -58,7 +58,7 @@ module _ (ls : List Level) (a : ℤ) (ns : List Node) (top : Edge) (g : AllAscen
   read = read_written last fits (pattern ls top ns) (pattern_fit ls a ns top r)
 
   -- its Booleans are among those that a legal list for n values may have
-  known : (n : ℕ) → list_from n 0 0 (clause_words ls top ns) ≡ Passed → KnownIn n (pattern ls top ns)
+  known : (n : ℕ) → list_from n 0 0 (clause_words ls top ns) ≡ passed → KnownIn n (pattern ls top ns)
   known n passes = subst (KnownIn n) read (listed_known n (clause_words ls top ns) passes)
 
   pub words_exact : Exact (Solves ls a) (orders ls) bs (propagated (clauses_of (clause_words ls top ns)) bs)

@@ -1,6 +1,7 @@
 -- EXACTNESS of unit propagation, one claim over any notion of a solution: a conflict is found just where there is no completion, and otherwise just those order
 -- Booleans are settled on which all completions agree. The laws ask that every auxiliary Boolean is open at the start. Assumes nothing.
-use Rattle.std.specs.Prelude.{◌≡◌, ◌↔◌, List, Bool, ℕ, ◌+◌, ◌≤◌, ◌<◌}
+use Rattle.std.specs.Prelude.{◌≡◌, ◌↔◌, List, Bool, ℕ, ◌+◌, ◌≤◌, ◌<◌, Result, Ok}
+use Rattle.refusal.specs.declared.Refusal.{Refusal}
 use Rattle.clause.specs.Meaning.{Values}
 use Rattle.propagation.specs.Derived.{byte_of, byte}
 use Rattle.propagation.specs.Propagated.{Outcome, conflict, reached}
@@ -36,8 +37,8 @@ pub record Exact (Solution : Values → Type 0) (D : ℕ) (bs : List ℕ) (z : O
       → (v : Values) → Completion Solution D bs v → v k ≡ x
 
 -- THE CLAIM OF A CALL that is not refused: its reply r and the bytes that it leaves in the buffer tell of something exact.
-pub record ExactCall (Solution : Values → Type 0) (D : ℕ) (bs after : List ℕ) (r : Propagated) : Type 0 where
+pub record ExactCall (Solution : Values → Type 0) (D : ℕ) (bs after : List ℕ) (r : Result Propagated Refusal) : Type 0 where
   pub outcome : Outcome
-  pub reply : r ≡ outcome_reply outcome
+  pub reply : r ≡ Ok (outcome_reply outcome)
   pub buffer : after ≡ outcome_bytes bs outcome
   pub exact : Exact Solution D bs outcome

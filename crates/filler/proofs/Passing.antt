@@ -9,7 +9,7 @@ use Rattle.diagram.specs.Constraint.{most_orders}
 use Rattle.word.specs.Edge.{Edge}
 use Rattle.word.specs.Record.{flat, record_words}
 use Rattle.word.specs.Padded.{cleared}
-use Rattle.word.proofs.Records.{flat_length}
+use Rattle.word.proofs.Laid.{flat_length}
 use Rattle.word.proofs.Cleared.{cleared_padded}
 use Rattle.diagram.specs.Level.{Level}
 use Rattle.diagram.specs.Table.{Node, table, root}

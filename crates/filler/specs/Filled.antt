@@ -12,6 +12,7 @@ use Rattle.encoding.specs.Pattern.{clause_words, word_count}
 use Rattle.constraint.specs.Lent.{terms_of}
 use Rattle.linker.specs.Sum.{end_sum}
 use Rattle.filler.specs.declared.Counts.{Counts}
+use Rattle.filler.specs.declared.LentLists.{LentLists}
 
 -- A constraint's levels, its table, its root, and its clause words.
 abbrev pub levels_in : Constraint → List Level
@@ -57,3 +58,7 @@ pub record Filled (c : Constraint) (t e w t' e' w' : List ℕ) : Type 0 where
   pub table : t' ≡ padded (length t) (table_words (nodes_for c))
   pub edges : e' ≡ padded (length e) (edge_words (nodes_for c))
   pub clauses : w' ≡ padded (length w) (clauses_for c)
+
+-- The lists are in the same memory of the caller as before.
+abbrev pub SameReferences : LentLists → LentLists → Type 0
+SameReferences a b = (b.table.ghost_name ≡ a.table.ghost_name) × (b.edges.ghost_name ≡ a.edges.ghost_name) × (b.clauses.ghost_name ≡ a.clauses.ghost_name)

@@ -3,11 +3,11 @@
 
 ghost use Rattle.std.specs.Prelude.{◌≡◌, ◌≤◌, ℤ, length};
 ghost use Rattle.word.specs.Edge.{edge_of};
-ghost use Rattle.constraint.specs.Lent.{Lent};
 ghost use Rattle.word.specs.Record.{labelled};
 ghost use Rattle.linker.specs.Sum.{Countable};
-ghost use Rattle.filler.specs.Filled.{constraint_of, counts_by, Tabled, Roomy, Filled};
+ghost use Rattle.filler.specs.Filled.{constraint_of, SameReferences, counts_by, Tabled, Roomy, Filled};
 
+use constraint::Levels;
 use word::{Child, RECORD};
 
 // How many nodes, edges and clause words an accepted call has written.
@@ -18,29 +18,30 @@ pub struct Counts {
     pub words: usize,
 }
 
+// The lists of a call, in memory that the caller lends: the node table, the edge list and the clause list.
+#[derive(Drop)]
+pub struct LentLists<'a> {
+    pub table: &'a mut [u32],
+    pub edges: &'a mut [u32],
+    pub clauses: &'a mut [u32],
+}
+
 // The places and counts in the table, the edge list and the clauses, with zeros behind each, where there is room for all.
-pub fn fill<'a>(
-    coefs: &'a [u32],
-    ends: &'a [u32],
-    rests: &'a [u32],
-    orders: u32,
-    root: Child,
-    counts: Counts,
-    table: &mut [u32],
-    edges: &mut [u32],
-    clauses: &mut [u32],
-)
-    requires lent { Lent coefs.now ends.now rests.now }
-    requires tabled { (a : ℤ) × Tabled (constraint_of coefs.now ends.now a) orders (edge_of root) table.old counts.nodes × Roomy (constraint_of coefs.now ends.now a) counts edges.old clauses.old }
-    ensures { (a : ℤ) → Tabled (constraint_of coefs.now ends.now a) orders (edge_of root) table.old counts.nodes → Roomy (constraint_of coefs.now ends.now a) counts edges.old clauses.old
-        → Filled (constraint_of coefs.now ends.now a) table.old edges.old clauses.old table.new edges.new clauses.new }
+pub fn fill(levels: Levels<'_>, orders: u32, root: Child, counts: Counts, lists: &mut LentLists<'_>)
+    requires { (a : ℤ) × Tabled (constraint_of levels.coefficients.now levels.ends.now a) orders (edge_of root) lists.old.table.now counts.nodes × Roomy (constraint_of levels.coefficients.now levels.ends.now a) counts lists.old.edges.now lists.old.clauses.now }
+    ensures same_references { SameReferences lists.old lists.new }
+    ensures filled { (a : ℤ) → Tabled (constraint_of levels.entry.coefficients.now levels.entry.ends.now a) orders (edge_of root) lists.old.table.now counts.nodes → Roomy (constraint_of levels.entry.coefficients.now levels.entry.ends.now a) counts lists.old.edges.now lists.old.clauses.now
+        → Filled (constraint_of levels.entry.coefficients.now levels.entry.ends.now a) lists.old.table.now lists.old.edges.now lists.old.clauses.now lists.new.table.now lists.new.edges.now lists.new.clauses.now }
 {
+    let table = &mut *lists.table;
+    let edges = &mut *lists.edges;
+    let clauses = &mut *lists.clauses;
     let nodes = counts.nodes;
-    linker::link(coefs, ends, rests, table, nodes, edges);
-    clause_writer::write(ends, orders, table, nodes, edges, root, clauses);
-    word::clear(table, nodes * RECORD);
-    word::clear(edges, counts.edges);
-    word::clear(clauses, counts.words);
+    linker::link(levels, table, nodes, edges);
+    clause_writer::write(levels.ends, orders, table, nodes, edges, root, clauses);
+    word::fill_from(table, nodes * RECORD, 0);
+    word::fill_from(edges, counts.edges, 0);
+    word::fill_from(clauses, counts.words, 0);
 }
 
 // The counts of a table that is built, by the sum of domain ends over its records.

@@ -1,33 +1,26 @@
 // The finder over a flat table of node records.
 #![tactic(auto)]
 
-ghost use Rattle.std.specs.Prelude.{◌≡◌, ltb};
+ghost use Rattle.std.specs.Prelude.{◌≡◌, ◌+◌, ◌*◌, ◌<◌, ℕ, List, length, ltb};
 ghost use Rattle.word.specs.Gives.{Gives};
-ghost use Rattle.word.specs.Record.{records};
-ghost use Rattle.finder.specs.Find.{found_values, fields_hold, fields_before, bit_of, find_in, key};
+ghost use Rattle.word.specs.Record.{Record, records};
+ghost use Rattle.finder.specs.Find.{found_values, fields_hold, fields_before, bit_of, find_in, key, ReadBy};
 
 use word::{LOWER, NodeNumber, RECORD, Remainder, UPPER};
 
-// What the finder replies: the number of a record, or that there is none, with the gap, which counts the records that lie before the remainder. A record does
-// where its level is smaller than the wanted one, or is that one and its upper end is below the remainder.
+// What the finder reads of a record: its level, and the lower and the upper end of its label.
 #[derive(Clone, Copy)]
-pub enum Found {
-    At(NodeNumber),
-    Nothing(usize),
+pub struct Fields {
+    pub level: u32,
+    pub lower: u32,
+    pub upper: u32,
 }
 
 // Whether a record with these fields is of the wanted level and its label holds the remainder.
 pub fn holds(level: u32, lower: u32, upper: u32, wanted: u32, r: Remainder) -> bool
     ensures { result ≡ fields_hold level lower upper wanted r.0 }
 {
-    let x = r.0;
-    if level != wanted {
-        return false;
-    }
-    if x < lower {
-        return false;
-    }
-    x <= upper
+    level == wanted && lower <= r.0 && r.0 <= upper
 }
 
 // A level and a number of its remainders as one number, so that one comparison decides.
@@ -48,23 +41,43 @@ pub fn below(level: u32, upper: u32, wanted: u32, r: Remainder) -> bool
 pub fn lies_before(level: u32, upper: u32, wanted: u32, r: Remainder) -> usize
     ensures { result ≡ bit_of (fields_before level upper wanted r.0) }
 {
-    if below(level, upper, wanted, r) { 1 } else { 0 }
+    usize::from(below(level, upper, wanted, r))
 }
 
-// The first record of the level whose label holds the remainder, or the gap, counted over all records.
-pub fn find(table: &[u32], level: u32, r: Remainder) -> Found
+// The reply on `count` records, whose fields `read` gives by number: the number of the first record of the level whose label holds the remainder; where there is
+// none, the gap, which counts the records that lie before the remainder. A record does where its level is smaller than the wanted one, or is that one and its upper
+// end is below the remainder.
+pub fn search<F: Fn(usize) -> Fields>(
+    count: usize,
+    read: F,
+    level: u32,
+    r: Remainder,
+) -> Result<NodeNumber, usize>
+    requires { (k : ℕ) → k < count → F.pre read k }
+    ensures { (xs : List Record) → length xs ≡ count → ReadBy (F.post read) xs → result ≡ find_in xs level r.0 }
+{
+    let mut gap = 0;
+    for k in 0..count {
+        let x = read(k);
+        if holds(x.level, x.lower, x.upper, level, r) {
+            return Ok(NodeNumber(k));
+        }
+        gap += lies_before(x.level, x.upper, level, r);
+    }
+    Err(gap)
+}
+
+// The reply on a flat table, over all its records.
+pub fn find(table: &[u32], level: u32, r: Remainder) -> Result<NodeNumber, usize>
     ensures { Gives found_values (find_in (records table.now) level r.0) result }
 {
-    let n = table.len() / RECORD;
-    let mut k = 0;
-    let mut gap = 0;
-    while k < n {
+    let read = |k: usize| {
         let b = k * RECORD;
-        if holds(table[b], table[b + LOWER], table[b + UPPER], level, r) {
-            return Found::At(NodeNumber(k));
+        Fields {
+            level: table[b],
+            lower: table[b + LOWER],
+            upper: table[b + UPPER],
         }
-        gap += lies_before(table[b], table[b + UPPER], level, r);
-        k += 1;
-    }
-    Found::Nothing(gap)
+    };
+    search(table.len() / RECORD, read, level, r)
 }

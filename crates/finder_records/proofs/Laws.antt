@@ -4,7 +4,7 @@ use mathlib.Core.Path.{◌≡◌, sym, ap}
 use mathlib.Core.List.{List}
 use Prim.Native.Nat.{ℕ}
 use Rattle.word.specs.Record.{Record, records}
-use Rattle.word.proofs.Records.{flat_records}
+use Rattle.word.proofs.Laid.{flat_records}
 use Rattle.finder.specs.Find.{find_in}
 use Rattle.finder_records.specs.declared.Node.{Node}
 use Rattle.finder_records.specs.Nodes.{records_of, words_of_nodes}

@@ -14,7 +14,5 @@ pub struct Limits {
 pub fn counted_as(limit: u64, main: usize) -> usize
     ensures { result ≡ min limit main }
 {
-    let most = main as u64;
-    let least = if limit < most { limit } else { most };
-    least as usize
+    limit.min(main as u64) as usize
 }

@@ -26,8 +26,8 @@ use Rattle.diagram.proofs.Entering.{Inside}
 use Rattle.diagram.proofs.Places.{map_at}
 use Rattle.diagram.proofs.Whole.{whole}
 use Rattle.diagram.proofs.Written.{records_from-length, table_record}
-use Rattle.finder.specs.declared.Found.{Found}
-use Rattle.finder.specs.declared.Found.TheVariants.{At, Nothing}
+use Rattle.std.specs.Prelude.{Result, Ok, Err}
+use Rattle.word.specs.declared.NodeNumber.{NodeNumber}
 use Rattle.finder.specs.Find.{find_in}
 use Rattle.finder.proofs.Says.{find_says}
 use Rattle.search_ordered.specs.Order.{Sorted}
@@ -48,9 +48,9 @@ pub leads_fit : (xs : List Record) (level top : ℕ) (z : ℤ) → length xs ≤
 leads_fit xs level top (negsuc z) h = omega arith
 leads_fit xs level top (pos r) h = go (leb top r)
   where
-    found : (f : Found) → find_in xs level r ≡ f → edge_word (edge_found f) ≤ 4294967295
-    found (At k) e = omega (arith, (find_says xs level r k.0 e).0)
-    found (Nothing gap) e = omega arith
+    found : (f : Result NodeNumber ℕ) → find_in xs level r ≡ f → edge_word (edge_found f) ≤ 4294967295
+    found (Ok k) e = omega (arith, (find_says xs level r k.0 e).0)
+    found (Err gap) e = omega arith
 
     go : (b : Bool) → edge_word (cond b T (edge_found (find_in xs level r))) ≤ 4294967295
     go true = omega arith
@@ -61,9 +61,9 @@ pub leads_inside : (xs : List Record) (level top : ℕ) (z : ℤ) → Inside (le
 leads_inside xs level top (negsuc z) = tt
 leads_inside xs level top (pos r) = go (leb top r)
   where
-    found : (f : Found) → find_in xs level r ≡ f → Inside (length xs) (edge_found f)
-    found (At k) e = (find_says xs level r k.0 e).0
-    found (Nothing gap) e = tt
+    found : (f : Result NodeNumber ℕ) → find_in xs level r ≡ f → Inside (length xs) (edge_found f)
+    found (Ok k) e = (find_says xs level r k.0 e).0
+    found (Err gap) e = tt
 
     go : (b : Bool) → Inside (length xs) (cond b T (edge_found (find_in xs level r)))
     go true = tt

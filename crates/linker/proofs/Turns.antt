@@ -21,7 +21,8 @@ use Rattle.diagram.specs.Flat.{end_at}
 use Rattle.diagram.specs.Entering.{times}
 use Rattle.diagram.proofs.Places.{row_at_lem, row_length, map_at}
 use Rattle.diagram.proofs.Same.{sub_pos, sub_neg}
-use Rattle.finder.specs.declared.Found.{Found}
+use Rattle.std.specs.Prelude.{Result}
+use Rattle.word.specs.declared.NodeNumber.{NodeNumber}
 use Rattle.finder.specs.Find.{find_in}
 use Rattle.linker.specs.Sum.{end_sum, Countable}
 use Rattle.linker.specs.Row.{edge_found, leads_to, row_of, row_at, rows_of, place_in}
@@ -49,11 +50,19 @@ module _ (xs : List Record) (level top coef end lower : ℕ) where
   words_here j h = map_at edge_word (row_of xs level top coef end lower) j 0 F (omega (arith, row_long)) ∙ ap edge_word (row_here j h)
 
   -- A TURN OF A ROW: a child's word is written, and the child is counted
-  pub row_turn : (es₀ es : List ℕ) (first j w : ℕ) → j ≤ end → first + (end + 1) ≤ length es₀ → es ≡ paste es₀ first words j
+  pub row_turn : (es₀ es : List ℕ) (j w : ℕ) → j ≤ end → end + 1 ≤ length es₀ → es ≡ paste es₀ 0 words j
       → w ≡ edge_word (leads_to xs level top (sub_ℕ lower (coef * j)))
-      → set es (first + j) w ≡ paste es₀ first words (j + 1)
-  row_turn es₀ es first j w h room e q =
-      rw (e, q ∙ sym (words_here j h), add-one j) (paste-suc es₀ first words j 0 (omega arith) (omega (arith, words_long)))
+      → set es j w ≡ paste es₀ 0 words (j + 1)
+  row_turn es₀ es j w h room e q =
+      rw (e, q ∙ sym (words_here j h), add-one j)
+      (subst (λ (k : ℕ). set (paste es₀ 0 words j) k (get_or words j 0) ≡ paste es₀ 0 words (suc j)) (let z : 0 + j ≡ j = omega arith in z)
+      (paste-suc es₀ 0 words j 0 (omega arith) (omega (arith, words_long))))
+
+  -- the row is whole when a word for each value is written
+  pub row_whole : (es : List ℕ) → length es ≡ end + 1 → paste es 0 words (end + 1) ≡ words
+  row_whole es e =
+      ap₂ (λ (ws vs : List ℕ). ws ++ vs) (take_all (end + 1) words (omega (arith, words_long))) (drop_of_length-le es (let h : length es ≤ 0 + (end + 1) = omega arith in h))
+      ∙ append-nil words
 
   pub count_turn : (t₀ t : List ℕ) (j : ℕ) (e : Edge) → j ≤ end → t ≡ entered t₀ (take j (row_of xs level top coef end lower)) → e ≡ leads_to xs level top (sub_ℕ lower (coef * j))
       → entered_by t e ≡ entered t₀ (take (j + 1) (row_of xs level top coef end lower))
@@ -69,7 +78,7 @@ module _ (xs : List Record) (level top lower taken : ℕ) where
   pub child_top : taken ≤ lower → top ≤ lower - taken → T ≡ leads_to xs level top (sub_ℕ lower taken)
   child_top h k = rw (sub_pos lower taken h, le-leb top (lower - taken) k)
 
-  pub child_found : taken ≤ lower → lower - taken < top → (f : Found) → f ≡ find_in xs level (lower - taken) → edge_found f ≡ leads_to xs level top (sub_ℕ lower taken)
+  pub child_found : taken ≤ lower → lower - taken < top → (f : Result NodeNumber ℕ) → f ≡ find_in xs level (lower - taken) → edge_found f ≡ leads_to xs level top (sub_ℕ lower taken)
   child_found h k f e = rw (sub_pos lower taken h, lt-leb top (lower - taken) k) (ap edge_found e)
 
 -- ---- The sum

@@ -1,19 +1,18 @@
 -- CHILDREN BY THE RECORDS: where each child of a record leads, as a search among the records tells, and where its children begin. What the
 -- functions of this crate that are not public compute. Assumes nothing.
-use Rattle.std.specs.Prelude.{ℕ, zero, suc, ◌+◌, ◌-◌, ◌*◌, List, [], ◌∷◌, ◌++◌, cond, leb, ℤ, pos, negsuc, get_or}
+use Rattle.std.specs.Prelude.{ℕ, zero, suc, ◌+◌, ◌-◌, ◌*◌, List, [], ◌∷◌, ◌++◌, cond, leb, ℤ, pos, negsuc, get_or, Result, Ok, Err}
 use Rattle.std.proofs.Math.IntN.{sub_ℕ}
 use Rattle.word.specs.Edge.{Edge, F, T, to}
 use Rattle.word.specs.Record.{Record}
 use Rattle.diagram.specs.Table.{row}
-use Rattle.finder.specs.declared.Found.{Found}
-use Rattle.finder.specs.declared.Found.TheVariants.{At, Nothing}
+use Rattle.word.specs.declared.NodeNumber.{NodeNumber}
 use Rattle.finder.specs.Find.{find_in}
 use Rattle.diagram.specs.Flat.{end_at}
 
 -- The edge of a search's reply. In a finished table a search for a child that is not decided finds a record.
-abbrev pub edge_found : Found → Edge
-edge_found (At k) = to k.0
-edge_found (Nothing gap) = F
+abbrev pub edge_found : Result NodeNumber ℕ → Edge
+edge_found (Ok k) = to k.0
+edge_found (Err gap) = F
 
 -- Where a remainder leads at a level whose R is `top`: to F below 0, to T at R or above, else to the record that is found.
 abbrev pub leads_to : List Record → ℕ → ℕ → ℤ → Edge

@@ -1,54 +1,48 @@
 // From the labels of a finished table: the sum of domain ends, and the edge list with each record's place in it and the edges that enter its node.
 #![tactic(auto)]
 
-ghost use Rattle.std.specs.Prelude.{◌≡◌, map, ◌+◌, ◌≤◌, ℤ, length};
+ghost use Rattle.std.specs.Prelude.{◌≡◌, map, ◌+◌, ◌<◌, ◌≤◌, ℤ, length, get_or};
 ghost use Rattle.std.proofs.Math.IntN.{sub_ℕ};
-ghost use Rattle.std.proofs.Math.Seq.{paste};
 ghost use Rattle.word.specs.Record.{most_nodes, labelled, RecordsFit};
-ghost use Rattle.diagram.specs.Constraint.{last_end, last_coefficient};
 ghost use Rattle.word.specs.Edge.{edge_word, edge_of};
 ghost use Rattle.search_ordered.specs.Order.{Sorted};
-ghost use Rattle.constraint.specs.Lent.{Lent};
 ghost use Rattle.linker.specs.Sum.{end_sum, Countable};
-ghost use Rattle.linker.specs.Row.{leads_to, row_of};
+ghost use Rattle.linker.specs.Row.{leads_to, row_at};
 ghost use Rattle.linker.specs.Counting.{CanEnter, CountsFit, entered_by, entered, unentered};
 ghost use Rattle.linker.specs.Linked.{Finished, Linked};
 
-use constraint::Constraint;
-use finder::Found;
-use word::{Child, ENTERING, FIRST, LOWER, RECORD, Remainder};
+use constraint::{Constraint, Levels};
+use search_ordered::Ordered;
+use word::{Child, ENTERING, FIRST, LOWER, NodeNumber, RECORD, Records, Remainder};
 
 // The most values of a level, 0 to its domain end.
 const VALUES: usize = Constraint::END as usize + 1;
 
-// The sum, over the first `count` records, of the domain end of the record's level.
+// The sum, over the first `count` records, of the domain end of the record's level. (What it asks, `Countable`, speaks of the words and the count, so they come as
+// they are.)
 pub fn sum_ends(ends: &[u32], table: &[u32], count: usize) -> usize
     requires { Countable ends.now table.now count }
     ensures { result ≡ end_sum ends.now (labelled table.now count) }
 {
     let mut sum: usize = 0;
-    let mut k: usize = 0;
-    while k < count {
+    for k in 0..count {
         let level = table[k * RECORD];
         let i = (level - 1) as usize;
         sum += ends[i] as usize;
-        k += 1;
     }
     sum
 }
 
-// Where `lower` less `taken` leads at a level whose R is `top`, found among the first `count` records with a cursor, which a decided child does not move.
+// Where `lower` less `taken` leads at a level whose R is `top`, found among the records with a cursor, which a decided child does not move.
 fn child(
-    table: &[u32],
-    count: usize,
-    cursor: &mut usize,
+    ordered: Ordered<'_>,
+    cursor: &mut NodeNumber,
     level: u32,
     top: u32,
     lower: u32,
     taken: u32,
 ) -> Child
-    requires { RecordsFit count table.now × Sorted (labelled table.now count) }
-    ensures { edge_of result ≡ leads_to (labelled table.now count) level top (sub_ℕ lower taken) }
+    ensures { edge_of result ≡ leads_to (labelled ordered.entry.records.table.now ordered.entry.records.count) level top (sub_ℕ lower taken) }
 {
     if lower < taken {
         return Child::False;
@@ -57,21 +51,19 @@ fn child(
     if top <= r {
         return Child::True;
     }
-    let Found::At(k) = search_ordered::find_from(table, count, cursor, level, Remainder(r)) else {
+    let Ok(k) = search_ordered::find_from(ordered, cursor, level, Remainder(r)) else {
         return Child::False;
     };
     Child::Node(k)
 }
 
-// Sets the numbers of entering edges of the first `count` records to 0.
+// Sets the numbers of entering edges of the first `count` records to 0. (Here and below the table is written, so it and the count come apart: `Records` only reads.)
 fn clear_entering(table: &mut [u32], count: usize)
     requires { RecordsFit count table.old }
     ensures { table.new ≡ unentered table.old count }
 {
-    let mut n = 0;
-    while n < count {
+    for n in 0..count {
         table[n * RECORD + ENTERING] = 0;
-        n += 1;
     }
 }
 
@@ -87,77 +79,67 @@ fn enter(table: &mut [u32], c: Child)
     table[at] += 1;
 }
 
-// Writes the words of the children of `lower` from a place of the edges on, and counts each at its node; `level` and `top` are those of the level below. The
-// child of value j is searched for from cursor j on.
+// Writes the words of the children of a lower end of level i, counted from 0, and counts each at its node. The child of value j is searched for from cursor j on.
 fn row(
     table: &mut [u32],
     count: usize,
-    cursors: &mut [usize; VALUES],
-    level: u32,
-    top: u32,
-    coef: u32,
-    end: u32,
+    cursors: &mut [NodeNumber; VALUES],
+    levels: Levels<'_>,
+    i: usize,
     lower: u32,
-    edges: &mut [u32],
-    first: usize,
+    words: &mut [u32],
 )
     requires count_le_most_nodes { (count ≤ most_nodes) × RecordsFit count table.old × Sorted (labelled table.old count) }
-    requires coef_le_last_coefficient { (coef ≤ last_coefficient) × (end ≤ last_end) × (first + (end + 1) ≤ length edges.old) }
+    requires i_in_bounds { (i < length levels.coefficients.now) × (length words.old ≡ get_or levels.ends.now i 0 + 1) }
     requires counts_fit { CountsFit table.old count }
-    ensures edges_after { edges.new ≡ paste edges.old first (map edge_word (row_of (labelled table.old count) level top coef end lower)) (end + 1) }
-    ensures table_after { table.new ≡ entered table.old (row_of (labelled table.old count) level top coef end lower) }
+    ensures words_after { words.new ≡ map edge_word (row_at levels.entry.coefficients.now levels.entry.ends.now levels.entry.rests.now (labelled table.old count) i lower) }
+    ensures table_after { table.new ≡ entered table.old (row_at levels.entry.coefficients.now levels.entry.ends.now levels.entry.rests.now (labelled table.old count) i lower) }
 {
+    let level = i as u32 + 2;
+    let top = levels.rests[i + 1];
+    let coef = levels.coefficients[i];
     let mut taken: u32 = 0;
-    let mut j: u32 = 0;
-    while j <= end {
-        let at = j as usize;
-        let c = child(table, count, &mut cursors[at], level, top, lower, taken);
-        edges[first + at] = word::edge_word(c);
+    for (j, word) in words.iter_mut().enumerate() {
+        let records = Records { table, count };
+        let c = child(
+            Ordered { records },
+            &mut cursors[j],
+            level,
+            top,
+            lower,
+            taken,
+        );
+        *word = word::edge_word(c);
         enter(table, c);
         taken += coef;
-        j += 1;
     }
 }
 
 // Writes the edge list, and into each of the first `count` records its place there and how many edges enter its node. As the records are in order, so are the
 // children of one value: the value's cursor only moves on.
-pub fn link<'a>(
-    coefs: &'a [u32],
-    ends: &'a [u32],
-    rests: &'a [u32],
-    table: &mut [u32],
-    count: usize,
-    edges: &mut [u32],
-)
-    requires lent { Lent coefs.now ends.now rests.now }
-    requires finished { (a : ℤ) × Finished coefs.now ends.now a table.old count edges.old }
-    ensures { (a : ℤ) → Finished coefs.now ends.now a table.old count edges.old
-        → Linked coefs.now ends.now a table.old count edges.old table.new edges.new }
+pub fn link(levels: Levels<'_>, table: &mut [u32], count: usize, edges: &mut [u32])
+    requires { (a : ℤ) × Finished levels.coefficients.now levels.ends.now a table.old count edges.old }
+    ensures { (a : ℤ) → Finished levels.entry.coefficients.now levels.entry.ends.now a table.old count edges.old
+        → Linked levels.entry.coefficients.now levels.entry.ends.now a table.old count edges.old table.new edges.new }
 {
     clear_entering(table, count);
-    let mut cursors = [0usize; VALUES];
+    let mut cursors = [NodeNumber(0); VALUES];
     let mut first: usize = 0;
-    let mut k = 0;
-    while k < count {
-        let b = k * RECORD;
-        let i = table[b] - 1;
+    for node in 0..count {
+        let b = node * RECORD;
+        let i = (table[b] - 1) as usize;
         let lower = table[b + LOWER];
-        let at = i as usize;
-        let end = ends[at];
+        let past = first + (levels.ends[i] as usize + 1);
         table[b + FIRST] = first as u32;
         row(
             table,
             count,
             &mut cursors,
-            i + 2,
-            rests[at + 1],
-            coefs[at],
-            end,
+            levels,
+            i,
             lower,
-            edges,
-            first,
+            &mut edges[first..past],
         );
-        first += end as usize + 1;
-        k += 1;
+        first = past;
     }
 }

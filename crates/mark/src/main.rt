@@ -3,11 +3,9 @@
 
 fn main(rt: HostRuntime) {
     let mut input = [0u8; printout_marking::READ];
-    let read = input::read_input(&rt, &mut rt.stdin(), &mut input);
-    if read.failed {
+    let Ok(got) = input::read_input(&rt, &mut rt.stdin(), &mut input) else {
         return;
-    }
-    let got = read.count;
+    };
     let mut words = [0u32; printout_marking::WORDS];
     let mut out = [0u8; printout_marking::TEXT];
     let n = printout_marking::mark(&input[..got], &mut words, &mut out);

@@ -4,7 +4,8 @@ use mathlib.Core.Path.{◌≡◌, refl}
 use mathlib.Core.List.{List, [], ◌∷◌, ◌++◌}
 use Prim.Native.Nat.{ℕ}
 use Rattle.word.specs.Record.{records}
-use Rattle.refusal.specs.declared.Checked.TheVariants.{Passed, Refused}
+use Rattle.std.specs.Prelude.{Err}
+use Rattle.refusal.specs.Table.{passed}
 use Rattle.refusal.specs.declared.Refusal.TheVariants.{BadRecord}
 use Rattle.constraint_words.specs.Reading.{each_from, placed_from, terms_from, checked, as_written, stated}
 use Rattle.marking.specs.Judged.{edge_right, each_value, record_right, right_at, each_record, judged}
@@ -27,42 +28,42 @@ abbrev edges_r : List ℕ
 edges_r = 2 ∷ 2 ∷ 1 ∷ 0xC0000001 ∷ 0xC0000001 ∷ 0xC0000000 ∷ 0xC0000000 ∷ 0xC0000001 ∷ 0xC0000001 ∷ 0xC0000001 ∷ 0xC0000000 ∷ []
 
 -- P and R as document 01 has them.
-pub right_p : marked_reply words_p (1 ∷ 0 ∷ 0 ∷ 0 ∷ 0 ∷ []) (0xC0000001 ∷ 0xC0000000 ∷ []) ≡ Passed
+pub right_p : marked_reply words_p (1 ∷ 0 ∷ 0 ∷ 0 ∷ 0 ∷ []) (0xC0000001 ∷ 0xC0000000 ∷ []) ≡ passed
 unfolding records each_from placed_from terms_from checked as_written stated edge_right each_value record_right right_at each_record judged marked_reply
 right_p = refl
 
-pub right_r : marked_reply words_r ((1 ∷ 12 ∷ 13 ∷ 0 ∷ 0 ∷ []) ++ lower_r) edges_r ≡ Passed
+pub right_r : marked_reply words_r ((1 ∷ 12 ∷ 13 ∷ 0 ∷ 0 ∷ []) ++ lower_r) edges_r ≡ passed
 unfolding records each_from placed_from terms_from checked as_written stated edge_right each_value record_right right_at each_record judged marked_reply
 right_r = refl
 
 -- A narrower label is right, and so is a record for a root that is T.
-pub narrower_r : marked_reply words_r ((1 ∷ 12 ∷ 12 ∷ 0 ∷ 0 ∷ []) ++ lower_r) edges_r ≡ Passed
+pub narrower_r : marked_reply words_r ((1 ∷ 12 ∷ 12 ∷ 0 ∷ 0 ∷ []) ++ lower_r) edges_r ≡ passed
 unfolding records each_from placed_from terms_from checked as_written stated edge_right each_value record_right right_at each_record judged marked_reply
 narrower_r = refl
 
-pub right_q : marked_reply words_q (1 ∷ 1 ∷ 0xFFFFFFFF ∷ 0 ∷ 0 ∷ []) (0xC0000001 ∷ 0xC0000001 ∷ []) ≡ Passed
+pub right_q : marked_reply words_q (1 ∷ 1 ∷ 0xFFFFFFFF ∷ 0 ∷ 0 ∷ []) (0xC0000001 ∷ 0xC0000001 ∷ []) ≡ passed
 unfolding records each_from placed_from terms_from checked as_written stated edge_right each_value record_right right_at each_record judged marked_reply
 right_q = refl
 
 -- Without records Q is right and P is not.
-pub none_q : marked_reply words_q [] [] ≡ Passed
+pub none_q : marked_reply words_q [] [] ≡ passed
 unfolding records each_from placed_from terms_from checked as_written stated judged marked_reply
 none_q = refl
 
-pub none_p : marked_reply words_p [] [] ≡ Refused (BadRecord 0)
+pub none_p : marked_reply words_p [] [] ≡ Err (BadRecord 0)
 unfolding records each_from placed_from terms_from checked as_written stated judged marked_reply
 none_p = refl
 
 -- A label from child 0 alone is too wide, and zeros behind the last node are a record that is bad.
-pub wider_r : marked_reply words_r ((1 ∷ 10 ∷ 14 ∷ 0 ∷ 0 ∷ []) ++ lower_r) edges_r ≡ Refused (BadRecord 0)
+pub wider_r : marked_reply words_r ((1 ∷ 10 ∷ 14 ∷ 0 ∷ 0 ∷ []) ++ lower_r) edges_r ≡ Err (BadRecord 0)
 unfolding records each_from placed_from terms_from checked as_written stated edge_right each_value record_right right_at each_record judged marked_reply
 wider_r = refl
 
-pub zeros_r : marked_reply words_r ((1 ∷ 12 ∷ 13 ∷ 0 ∷ 0 ∷ []) ++ lower_r ++ (0 ∷ 0 ∷ 0 ∷ 0 ∷ 0 ∷ [])) edges_r ≡ Refused (BadRecord 3)
+pub zeros_r : marked_reply words_r ((1 ∷ 12 ∷ 13 ∷ 0 ∷ 0 ∷ []) ++ lower_r ++ (0 ∷ 0 ∷ 0 ∷ 0 ∷ 0 ∷ [])) edges_r ≡ Err (BadRecord 3)
 unfolding records each_from placed_from terms_from checked as_written stated edge_right each_value record_right right_at each_record judged marked_reply
 zeros_r = refl
 
 -- A first place near 2^32 does not wrap.
-pub wrapped_p : marked_reply words_p (1 ∷ 0 ∷ 0 ∷ 0xFFFFFFFF ∷ 0 ∷ []) (0xC0000001 ∷ 0xC0000000 ∷ []) ≡ Refused (BadRecord 0)
+pub wrapped_p : marked_reply words_p (1 ∷ 0 ∷ 0 ∷ 0xFFFFFFFF ∷ 0 ∷ []) (0xC0000001 ∷ 0xC0000000 ∷ []) ≡ Err (BadRecord 0)
 unfolding records each_from placed_from terms_from checked as_written stated edge_right each_value record_right right_at each_record judged marked_reply
 wrapped_p = refl

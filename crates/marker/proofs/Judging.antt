@@ -10,9 +10,8 @@ use lib.ListN.{length, get_or, drop, drop_of_length-le}
 use lib.Seq.{drop-cons}
 use borrow.Author.Tests.{le-leb, lt-leb, eq-eqb, ne_eqb}
 use Rattle.word.specs.Record.{Record, record_words, no_record, records}
-use Rattle.refusal.specs.Table.{and_then, unless}
-use Rattle.refusal.specs.declared.Checked.{Checked}
-use Rattle.refusal.specs.declared.Checked.TheVariants.{Passed, Refused}
+use Rattle.refusal.specs.Table.{and_then, unless, Checked, passed}
+use Rattle.std.specs.Prelude.{Err}
 use Rattle.refusal.specs.declared.Refusal.TheVariants.{BadRecord}
 use Rattle.diagram.specs.Level.{Level, R}
 use Rattle.word.proofs.Flat.{records_length}
@@ -38,7 +37,7 @@ module _ (ls : List Level) (a : ℤ) (t es : List ℕ) where
       go (x ∷ xs) n = refl
 
   module _ (k : ℕ) (e : verdict ≡ judged_from k) where
-    pub judging_ends : length t / record_words ≤ k → Passed ≡ verdict
+    pub judging_ends : length t / record_words ≤ k → passed ≡ verdict
     unfolding each_record
     judging_ends h =
         sym (e ∙ ap (each_record (right_at ls a (records t) es) k) (drop_of_length-le (records t) (let n : length (records t) ≤ k = omega (arith, records_length t) in n)))
@@ -58,10 +57,10 @@ module _ (ls : List Level) (a : ℤ) (t es : List ℕ) where
           rw (place, alone)
           (e ∙ ap (each_record (right_at ls a (records t) es) k) (drop-cons (records t) k no_record (let n : k < length (records t) = omega (arith, records_length t) in n)))
 
-      pub bad_place : (b : Bool) → b ≡ place_right a k (record_in x) → b ≡ false → Refused (BadRecord k) ≡ verdict
+      pub bad_place : (b : Bool) → b ≡ place_right a k (record_in x) → b ≡ false → Err (BadRecord k) ≡ verdict
       bad_place b p q = sym (step ∙ rw (sym p ∙ q) refl)
 
-      pub bad_record : (b : Bool) → b ≡ record_right ls (records t) es (record_in x) → b ≡ false → Refused (BadRecord k) ≡ verdict
+      pub bad_record : (b : Bool) → b ≡ record_right ls (records t) es (record_in x) → b ≡ false → Err (BadRecord k) ≡ verdict
       bad_record b p q = sym (step ∙ rw (sym p ∙ q, and-false (place_right a k (record_in x))) refl)
 
       pub good_record : (b c : Bool) → b ≡ place_right a k (record_in x) → b ≡ true → c ≡ record_right ls (records t) es (record_in x) → c ≡ true → verdict ≡ judged_from (k + 1)
@@ -69,27 +68,27 @@ module _ (ls : List Level) (a : ℤ) (t es : List ℕ) where
 
   -- ---- Without records
 
-  pub none_refused : length t / record_words ≡ 0 → (z : ℕ) → a ≡ pos z → z < R ls → Refused (BadRecord 0) ≡ verdict
+  pub none_refused : length t / record_words ≡ 0 → (z : ℕ) → a ≡ pos z → z < R ls → Err (BadRecord 0) ≡ verdict
   unfolding judged
   none_refused h z e n = go (records t) (omega (arith, records_length t))
     where
-      go : (xs : List Record) → length xs ≡ 0 → Refused (BadRecord 0) ≡ judged ls a xs es
+      go : (xs : List Record) → length xs ≡ 0 → Err (BadRecord 0) ≡ judged ls a xs es
       go [] m = rw (e, lt-leb (R ls) z n) refl
       go (x ∷ xs) m = absurd (omega arith)
 
-  pub none_passed : length t / record_words ≡ 0 → (z : ℕ) → a ≡ pos z → R ls ≤ z → Passed ≡ verdict
+  pub none_passed : length t / record_words ≡ 0 → (z : ℕ) → a ≡ pos z → R ls ≤ z → passed ≡ verdict
   unfolding judged
   none_passed h z e n = go (records t) (omega (arith, records_length t))
     where
-      go : (xs : List Record) → length xs ≡ 0 → Passed ≡ judged ls a xs es
+      go : (xs : List Record) → length xs ≡ 0 → passed ≡ judged ls a xs es
       go [] m = rw (e, le-leb (R ls) z n) refl
       go (x ∷ xs) m = absurd (omega arith)
 
 -- ---- Below 0
 
 module _ (t : List ℕ) (ls : List Level) (z : ℕ) (es : List ℕ) where
-  pub below_none : length t / record_words ≡ 0 → Passed ≡ judged ls (negsuc z) (records t) es
+  pub below_none : length t / record_words ≡ 0 → passed ≡ judged ls (negsuc z) (records t) es
   below_none h = sym (below_zero ls z (records t) es ∙ rw (eq-eqb (length (records t)) 0 (omega (arith, records_length t))) refl)
 
-  pub below_some : (length t / record_words ≡ 0 → ⊥) → Refused (BadRecord 0) ≡ judged ls (negsuc z) (records t) es
+  pub below_some : (length t / record_words ≡ 0 → ⊥) → Err (BadRecord 0) ≡ judged ls (negsuc z) (records t) es
   below_some h = sym (below_zero ls z (records t) es ∙ rw (ne_eqb (length (records t)) 0 (λ q. h (omega (arith, records_length t)))) refl)

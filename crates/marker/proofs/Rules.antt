@@ -4,8 +4,8 @@ use mathlib.Core.Path.{◌≡◌, refl}
 use mathlib.Core.List.{List, [], ◌∷◌, ◌++◌}
 use Prim.Native.Nat.{ℕ}
 use Rattle.word.specs.Record.{records}
-use Rattle.refusal.specs.declared.Checked.{Checked}
-use Rattle.refusal.specs.declared.Checked.TheVariants.{Passed, Refused}
+use Rattle.refusal.specs.Table.{Checked, passed}
+use Rattle.std.specs.Prelude.{Err}
 use Rattle.refusal.specs.declared.Refusal.TheVariants.{NoWords, BadRecord}
 use Rattle.constraint_words.specs.Reading.{each_from, placed_from, terms_from, checked, as_written, stated}
 use Rattle.marking.specs.Judged.{edge_right, each_value, record_right, right_at, each_record, judged}
@@ -25,9 +25,9 @@ abbrev edges_w : List ℕ
 edges_w = 1 ∷ 1 ∷ 0xC0000001 ∷ 0xC0000000 ∷ []
 
 abbrev bad : ℕ → Checked
-bad n = Refused (BadRecord n)
+bad n = Err (BadRecord n)
 
-pub right_w : marked_reply words_w (root_w ++ node_w) edges_w ≡ Passed
+pub right_w : marked_reply words_w (root_w ++ node_w) edges_w ≡ passed
 unfolding records each_from placed_from terms_from checked as_written stated edge_right each_value record_right right_at each_record judged marked_reply
 right_w = refl
 
@@ -41,7 +41,7 @@ unfolding records each_from placed_from terms_from checked as_written stated edg
 child_empty = refl
 
 -- Nodes may repeat, and an edge from the last level may lead to a record behind it, which is bad by itself.
-pub repeated_node : marked_reply words_w (root_w ++ node_w ++ node_w) (1 ∷ 2 ∷ 0xC0000001 ∷ 0xC0000000 ∷ []) ≡ Passed
+pub repeated_node : marked_reply words_w (root_w ++ node_w ++ node_w) (1 ∷ 2 ∷ 0xC0000001 ∷ 0xC0000000 ∷ []) ≡ passed
 unfolding records each_from placed_from terms_from checked as_written stated edge_right each_value record_right right_at each_record judged marked_reply
 repeated_node = refl
 
@@ -67,7 +67,7 @@ unfolding records each_from placed_from terms_from checked as_written stated edg
 own_level_edge = refl
 
 -- The fifth word, half a record and edges that no record has are not read; edges that are missing are missed.
-pub not_read : marked_reply words_w ((1 ∷ 1 ∷ 4 ∷ 0 ∷ 77 ∷ []) ++ node_w ++ (9 ∷ 9 ∷ 9 ∷ 9 ∷ [])) (edges_w ++ (0x77777777 ∷ [])) ≡ Passed
+pub not_read : marked_reply words_w ((1 ∷ 1 ∷ 4 ∷ 0 ∷ 77 ∷ []) ++ node_w ++ (9 ∷ 9 ∷ 9 ∷ 9 ∷ [])) (edges_w ++ (0x77777777 ∷ [])) ≡ passed
 unfolding records each_from placed_from terms_from checked as_written stated edge_right each_value record_right right_at each_record judged marked_reply
 not_read = refl
 
@@ -76,7 +76,7 @@ unfolding records each_from placed_from terms_from checked as_written stated edg
 edge_missing = refl
 
 -- Where T skips a level its label is still that of the level right below the record's: 5 and above at the root, for 6 less what y₁ takes.
-pub skips : marked_reply (0x00000006 ∷ 0x40010001 ∷ 0x40010005 ∷ []) (1 ∷ 6 ∷ 6 ∷ 0 ∷ 0 ∷ []) (0xC0000001 ∷ 0xC0000001 ∷ []) ≡ Passed
+pub skips : marked_reply (0x00000006 ∷ 0x40010001 ∷ 0x40010005 ∷ []) (1 ∷ 6 ∷ 6 ∷ 0 ∷ 0 ∷ []) (0xC0000001 ∷ 0xC0000001 ∷ []) ≡ passed
 unfolding records each_from placed_from terms_from checked as_written stated edge_right each_value record_right right_at each_record judged marked_reply
 skips = refl
 
@@ -85,7 +85,7 @@ unfolding records each_from placed_from terms_from checked as_written stated edg
 skips_wide = refl
 
 -- y > 3 with y from 0 to 3: the base bound is below 0, and no label holds it.
-pub below_none_right : marked_reply (0x20000003 ∷ 0xC0000003 ∷ 0x40030001 ∷ []) [] [] ≡ Passed
+pub below_none_right : marked_reply (0x20000003 ∷ 0xC0000003 ∷ 0x40030001 ∷ []) [] [] ≡ passed
 unfolding records each_from placed_from terms_from checked as_written stated edge_right each_value record_right right_at each_record judged marked_reply
 below_none_right = refl
 
@@ -94,7 +94,7 @@ unfolding records each_from placed_from terms_from checked as_written stated edg
 below_some_bad = refl
 
 -- 65,535 y ≤ 0 with y from −1,000,000: the base bound is beyond 32 bits, and no label holds it either.
-pub beyond_none : marked_reply (0x00000000 ∷ 0x9FF0BDC0 ∷ 0x4001FFFF ∷ []) [] [] ≡ Passed
+pub beyond_none : marked_reply (0x00000000 ∷ 0x9FF0BDC0 ∷ 0x4001FFFF ∷ []) [] [] ≡ passed
 unfolding records each_from placed_from terms_from checked as_written stated edge_right each_value record_right right_at each_record judged marked_reply
 beyond_none = refl
 
@@ -103,6 +103,6 @@ unfolding records each_from placed_from terms_from checked as_written stated edg
 beyond_some = refl
 
 -- A refusal of the constraint comes first.
-pub words_first : marked_reply [] (root_w ++ node_w) edges_w ≡ Refused NoWords
+pub words_first : marked_reply [] (root_w ++ node_w) edges_w ≡ Err NoWords
 unfolding records each_from placed_from terms_from checked as_written stated edge_right each_value record_right right_at each_record judged marked_reply
 words_first = refl

@@ -1,15 +1,14 @@
--- FROM THE WORDS to the judgement: the slices of a record's arrays are those of the constraint that the words state. Assumes nothing.
+-- FROM THE WORDS to the judgement: the levels of a record are those of the constraint that the words state. Assumes nothing.
 use mathlib.Core.Path.{◌≡◌, refl, sym, ap, subst, ◌∙◌}
 use mathlib.Core.List.{List}
 use Prim.Native.Nat.{ℕ}
 use lib.IntN.{ℤ, pos, negsuc}
-use lib.ListN.{take}
 use Rattle.word.specs.Gives.{Gives}
 use Rattle.word.specs.Record.{Record, records}
 use Rattle.word.proofs.Giving.{gives}
 use Rattle.refusal.specs.declared.Refusal.{Refusal}
-use Rattle.refusal.specs.declared.Checked.{Checked}
-use Rattle.refusal.specs.declared.Checked.TheVariants.{Passed, Refused}
+use Rattle.refusal.specs.Table.{Checked, passed}
+use Rattle.std.specs.Prelude.{Err}
 use Rattle.diagram.specs.Level.{Level}
 use Rattle.diagram.specs.Constraint.{Term, levels}
 use Rattle.limits.specs.Limits.{main_limits}
@@ -19,9 +18,9 @@ use Rattle.constraint_bound.specs.declared.Bound.{Bound}
 use Rattle.constraint_bound.specs.declared.Bound.TheVariants.{Negative, Natural}
 use Rattle.constraint_bound.specs.Bound.{bound_of}
 use Rattle.constraint.specs.Held.{held_of}
-use Rattle.constraint.specs.Lent.{levels_of}
+use Rattle.constraint.specs.Lent.{terms_of, levels_of}
 use Rattle.constraint.specs.declared.Constraint.{Constraint as Held}
-use Rattle.constraint.proofs.Arrays.{terms_held, bound_held}
+use Rattle.constraint.proofs.Arrays.{bound_held}
 use Rattle.marking.specs.Judged.{judged}
 use Rattle.marker.specs.Reply.{marked_reply, marked_values}
 
@@ -34,16 +33,16 @@ bound_says : (a : ℤ) → BoundSays (bound_of a) a
 bound_says (pos z) = refl
 bound_says (negsuc z) = (z, refl)
 
-module _ (ws : List ℕ) (ok : checked main_limits ws ≡ Passed) (c : Held) (is : c ≡ held_of (stated ws)) where
+module _ (ws : List ℕ) (ok : checked main_limits ws ≡ passed) (c : Held) (is : c ≡ held_of (stated ws)) where
   says : (b : Bound) → c.bound ≡ b → BoundSays b (stated ws).bound
   says b e = subst (λ (x : Bound). BoundSays x (stated ws).bound) (sym (bound_held (stated ws) (checked_within main_limits ws ok) c is) ∙ e) (bound_says (stated ws).bound)
 
-  -- the judgement for the record's slices is the one for the constraint that is stated
-  pub judged_stated : (z : ℕ) → c.bound ≡ Natural z → (r : Checked) (xs : List Record) (es : List ℕ)
-      → r ≡ judged (levels_of (take c.terms c.coefficients) (take c.terms c.ends)) (pos z) xs es → r ≡ judged (levels (stated ws).terms) (stated ws).bound xs es
-  judged_stated z e r xs es f =
+  -- the judgement for the record's levels is the one for the constraint that is stated
+  pub judged_stated : (cs ds : List ℕ) → terms_of cs ds ≡ (stated ws).terms → (z : ℕ) → c.bound ≡ Natural z → (r : Checked) (xs : List Record) (es : List ℕ)
+      → r ≡ judged (levels_of cs ds) (pos z) xs es → r ≡ judged (levels (stated ws).terms) (stated ws).bound xs es
+  judged_stated cs ds t z e r xs es f =
       f
-      ∙ ap (λ (ts : List Term). judged (levels ts) (pos z) xs es) (terms_held (stated ws) (checked_within main_limits ws ok) c is)
+      ∙ ap (λ (ts : List Term). judged (levels ts) (pos z) xs es) t
       ∙ ap (λ (a : ℤ). judged (levels (stated ws).terms) a xs es) (sym (says (Natural z) e))
 
   -- the same for a bound below 0
@@ -54,10 +53,10 @@ module _ (ws : List ℕ) (ok : checked main_limits ws ≡ Passed) (c : Held) (is
       f (levels (stated ws).terms) h.0 es ∙ ap (λ (a : ℤ). judged (levels (stated ws).terms) a xs es) (sym h.1)
 
 -- the reply to words that are refused, and to words that pass
-pub mark_refused : (ws t es : List ℕ) (x : Refusal) → Refused x ≡ checked main_limits ws → Gives marked_values (marked_reply ws t es) (Refused x)
+pub mark_refused : (ws t es : List ℕ) (x : Refusal) → Err x ≡ checked main_limits ws → Gives marked_values (marked_reply ws t es) (Err x)
 unfolding marked_reply
 mark_refused ws t es x e = gives marked_values (rw (sym e) refl)
 
-pub mark_passed : (ws t es : List ℕ) → checked main_limits ws ≡ Passed → (r : Checked) → r ≡ judged (levels (stated ws).terms) (stated ws).bound (records t) es → Gives marked_values (marked_reply ws t es) r
+pub mark_passed : (ws t es : List ℕ) → checked main_limits ws ≡ passed → (r : Checked) → r ≡ judged (levels (stated ws).terms) (stated ws).bound (records t) es → Gives marked_values (marked_reply ws t es) r
 unfolding marked_reply
 mark_passed ws t es e r f = gives marked_values (rw e f)

@@ -1,22 +1,21 @@
 -- A RECORD'S TESTS, one after the other: where one fails the record is wrong, and where all before the row hold its row decides. Assumes nothing.
 use mathlib.Core.Path.{◌≡◌, refl, sym, ap, ◌∙◌}
 use mathlib.Core.List.{List}
-use mathlib.Core.Bool.{Bool, true, false, ◌&&◌, and-false}
+use mathlib.Core.Bool.{Bool, false, ◌&&◌, and-false}
 use Prim.Native.Nat.{ℕ, suc, ◌+◌, ◌*◌, ◌-◌, ◌/◌, ◌≤◌, ◌<◌}
 use native.Mathlib.Omega.{arith}
 use native.Mathlib.Numerals.{add-one}
 use lib.Dec.{leb}
-use lib.IntN.{pos}
 use lib.ListN.{length, get_or, take, drop, length-take}
-use borrow.Author.Tests.{lt-ltb, le-ltb, le-leb, lt-leb, eq-eqb, ne_eqb}
-use Rattle.word.specs.Record.{record_words, most_nodes, no_record, records, record_at}
+use borrow.Author.Tests.{le-leb, lt-leb}
+use Rattle.word.specs.Record.{record_words, no_record, records, record_at}
 use Rattle.diagram.specs.Level.{Level, R}
 use Rattle.diagram.specs.Label.{interval, from, no_end}
 use Rattle.constraint.specs.Lent.{levels_of, Lent}
 use Rattle.constraint.proofs.Slices.{levels_count, dom_at, off_at, term_at, rest_at, rest_small}
 use Rattle.word.proofs.Flat.{records_length, record_at_lem}
 use Rattle.marking.specs.HandIn.{own_label, own_level}
-use Rattle.marking.specs.Judged.{edge_right, each_value, row_right, record_right, root_right, place_right}
+use Rattle.marking.specs.Judged.{edge_right, each_value, row_right, record_right}
 use Rattle.marker_edges.specs.declared.Parent.{Parent}
 use Rattle.marker.specs.declared.Fields.{Fields}
 use Rattle.marker_edges.specs.Parent.{edge_test, RowFits}
@@ -25,30 +24,6 @@ use Rattle.marker.specs.Fields.{fields_read, record_in}
 -- the fields of record k are its words
 pub fields_at : (t : List ℕ) (k : ℕ) → k < length t / record_words → fields_read (record_at t k) ≡ fields_read (get_or (records t) k no_record)
 fields_at t k h = ap fields_read (sym (record_at_lem t k no_record (omega (arith, records_length t))))
-
--- ---- The root
-
-module _ (x : Fields) (a : ℕ) where
-  pub root_deep : (x.level ≡ 1 → ⊥) → false ≡ root_right (pos a) (record_in x)
-  root_deep h = rw (ne_eqb x.level 1 h) refl
-
-  pub root_above : x.level ≡ 1 → a < x.lower → leb x.lower a ≡ root_right (pos a) (record_in x)
-  root_above e h = rw (eq-eqb x.level 1 e, lt-leb x.lower a h) refl
-
-  pub root_below : x.level ≡ 1 → x.lower ≤ a → leb a x.upper ≡ root_right (pos a) (record_in x)
-  root_below e h = rw (eq-eqb x.level 1 e, le-leb x.lower a h) refl
-
--- ---- A record's number
-
-module _ (k : ℕ) (x : Fields) (a : ℕ) where
-  pub place_past : most_nodes ≤ k → false ≡ place_right (pos a) k (record_in x)
-  place_past h = rw (le-ltb k most_nodes h) refl
-
-  pub place_first : k < most_nodes → k ≡ 0 → (b : Bool) → b ≡ root_right (pos a) (record_in x) → b ≡ place_right (pos a) k (record_in x)
-  place_first h e b f = rw (lt-ltb k most_nodes h, eq-eqb k 0 e) f
-
-  pub place_later : k < most_nodes → (k ≡ 0 → ⊥) → true ≡ place_right (pos a) k (record_in x)
-  place_later h e = rw (lt-ltb k most_nodes h, ne_eqb k 0 e) refl
 
 -- ---- A record
 

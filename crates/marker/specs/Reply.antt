@@ -1,9 +1,7 @@
 -- THE MARKER'S REPLY to constraint words, a table and an edge list: right, or a refusal. Assumes nothing.
-use Rattle.std.specs.Prelude.{List, ℕ}
+use Rattle.std.specs.Prelude.{List, ℕ, Ok, Err}
 use Rattle.word.specs.Record.{records}
-use Rattle.refusal.specs.Table.{number_of, place_of, and_then}
-use Rattle.refusal.specs.declared.Checked.{Checked}
-use Rattle.refusal.specs.declared.Checked.TheVariants.{Passed, Refused}
+use Rattle.refusal.specs.Table.{number_of, place_of, and_then, Checked}
 use Rattle.diagram.specs.Constraint.{levels}
 use Rattle.limits.specs.Limits.{main_limits}
 use Rattle.constraint_words.specs.Reading.{checked, stated}
@@ -16,8 +14,8 @@ pub record MarkedValues : Type 0 where
   pub place : ℕ
 
 abbrev pub marked_values : Checked → MarkedValues
-marked_values Passed = record { right = 1; number = 0; place = 0 }
-marked_values (Refused x) = record { right = 0; number = number_of x; place = place_of x }
+marked_values (Ok tt) = record { right = 1; number = 0; place = 0 }
+marked_values (Err x) = record { right = 0; number = number_of x; place = place_of x }
 
 -- THE REPLY: the refusals of the constraint's words under the main limits come first, then the first bad record; words past the last full record are no record.
 unfoldable pub marked_reply : List ℕ → List ℕ → List ℕ → Checked

@@ -3,23 +3,23 @@
 
 mod records; // the records of a table, one after the other
 
-ghost use Rattle.std.specs.Prelude.{◌≡◌, List, ℕ, ◌+◌, ◌≤◌, pos, negsuc, length, take};
+ghost use Rattle.std.specs.Prelude.{◌≡◌, List, ℕ, pos, negsuc};
 ghost use Rattle.word.specs.Gives.{Gives};
 ghost use Rattle.word.specs.Record.{records as records'};
-ghost use Rattle.refusal.specs.declared.Checked.TheVariants.{Passed};
+ghost use Rattle.refusal.specs.Table.{passed};
 ghost use Rattle.diagram.specs.Level.{Level};
 ghost use Rattle.diagram.specs.Constraint.{levels};
 ghost use Rattle.limits.specs.Limits.{main_limits};
 ghost use Rattle.constraint_words.specs.Reading.{checked, stated};
 ghost use Rattle.constraint.specs.Held.{held_of};
-ghost use Rattle.constraint.specs.Lent.{levels_of, Lent};
+ghost use Rattle.constraint.specs.Lent.{levels_of};
 ghost use Rattle.marking.specs.Judged.{judged};
 ghost use Rattle.marker.specs.Reply.{marked_reply, marked_values};
 
-use constraint::Constraint;
+use constraint::{Constraint, Levels};
 use constraint_bound::Bound;
 use records::mark_records;
-use refusal::{Checked, Refusal};
+use refusal::Refusal;
 use word::RECORD;
 
 // The fields of a record that are read.
@@ -31,82 +31,46 @@ struct Fields {
     first: u32,
 }
 
-// The judgement of a hand-in, for the constraint of the slices. Without records the bound must be decided.
-fn mark_levels<'a>(
-    coefs: &'a [u32],
-    ends: &'a [u32],
-    rests: &'a [u32],
-    bound: u64,
-    table: &[u32],
-    edges: &[u32],
-) -> Checked
-    requires { Lent coefs.now ends.now rests.now }
-    ensures { result ≡ judged (levels_of coefs.now ends.now) (pos bound) (records' table.now) edges.now }
+// The judgement of a hand-in, for the constraint of the levels. Without records the bound must be decided.
+fn mark_levels(levels: Levels<'_>, bound: u64, table: &[u32], edges: &[u32]) -> Result<(), Refusal>
+    ensures { result ≡ judged (levels_of levels.entry.coefficients.now levels.entry.ends.now) (pos bound) (records' table.now) edges.now }
 {
     if table.len() / RECORD == 0 {
-        if bound < rests[0] as u64 {
-            return Checked::Refused(Refusal::BadRecord(0));
+        if bound < levels.rests[0] as u64 {
+            return Err(Refusal::BadRecord(0));
         }
-        return Checked::Passed;
+        return Ok(());
     }
-    mark_records(coefs, ends, rests, bound, table, edges)
-}
-
-// The same for the first n places of a record's arrays.
-fn mark_arrays<'a>(
-    coefs: &'a [u32],
-    ends: &'a [u32],
-    rests: &'a [u32],
-    n: usize,
-    bound: u64,
-    table: &[u32],
-    edges: &[u32],
-) -> Checked
-    requires n_in_bounds { (n ≤ length coefs.now) × (n ≤ length ends.now) × (n + 1 ≤ length rests.now) }
-    requires lent { Lent (take n coefs.now) (take n ends.now) (take (n + 1) rests.now) }
-    ensures { result ≡ judged (levels_of (take n coefs.now) (take n ends.now)) (pos bound) (records' table.now) edges.now }
-{
-    mark_levels(
-        &coefs[..n],
-        &ends[..n],
-        &rests[..n + 1],
-        bound,
-        table,
-        edges,
-    )
+    mark_records(levels, bound, table, edges)
 }
 
 // The judgement for a bound below 0, which no label holds: right without records, and otherwise record 0 is bad.
-fn mark_below(table: &[u32]) -> Checked
+fn mark_below(table: &[u32]) -> Result<(), Refusal>
     ensures { (ls : List Level) (z : ℕ) (es : List ℕ) → result ≡ judged ls (negsuc z) (records' table.now) es }
 {
     if table.len() / RECORD == 0 {
-        return Checked::Passed;
+        return Ok(());
     }
-    Checked::Refused(Refusal::BadRecord(0))
+    Err(Refusal::BadRecord(0))
 }
 
 // The judgement for the record of a constraint, by its bound.
-fn mark_record(c: Constraint, table: &[u32], edges: &[u32]) -> Checked
-    requires { (ws : List ℕ) × (checked main_limits ws ≡ Passed) × (c ≡ held_of (stated ws)) }
-    ensures { (ws : List ℕ) → checked main_limits ws ≡ Passed → c ≡ held_of (stated ws)
+fn mark_record(c: Constraint, table: &[u32], edges: &[u32]) -> Result<(), Refusal>
+    requires { (ws : List ℕ) × (checked main_limits ws ≡ passed) × (c ≡ held_of (stated ws)) }
+    ensures { (ws : List ℕ) → checked main_limits ws ≡ passed → c ≡ held_of (stated ws)
         → result ≡ judged (levels (stated ws).terms) (stated ws).bound (records' table.now) edges.now }
 {
-    let n = c.terms;
-    let bound = c.bound;
-    match bound {
+    match c.bound {
         Bound::Negative => mark_below(table),
-        Bound::Natural(b) => mark_arrays(&c.coefficients, &c.ends, &c.rests, n, b, table, edges),
+        Bound::Natural(b) => mark_levels(c.levels(), b, table, edges),
     }
 }
 
 // Whether the table and the edge list are a right drawing of the constraint that the words state: passed, the refusal of the words, or the first bad record.
-pub fn mark(words: &[u32], table: &[u32], edges: &[u32]) -> Checked
+pub fn mark(words: &[u32], table: &[u32], edges: &[u32]) -> Result<(), Refusal>
     ensures { Gives marked_values (marked_reply words.now table.now edges.now) result }
 {
     let plain = constraint_words::is_plain(words);
-    match Constraint::check_by(Constraint::main_limits(), words, plain) {
-        Checked::Refused(x) => Checked::Refused(x),
-        Checked::Passed => mark_record(Constraint::make(words, plain), table, edges),
-    }
+    Constraint::check_by(Constraint::main_limits(), words, plain)?;
+    mark_record(Constraint::make(words, plain), table, edges)
 }

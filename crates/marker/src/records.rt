@@ -1,14 +1,14 @@
 // The records of a table, each judged by itself: by its number, by its own fields, and by its edges.
 ghost use Rattle.std.specs.Prelude.{◌≡◌, suc, ◌+◌, ◌/◌, ◌<◌, pos, length, get_or};
 ghost use Rattle.word.specs.Record.{record_words, no_record, records};
-ghost use Rattle.constraint.specs.Lent.{levels_of, Lent};
+ghost use Rattle.constraint.specs.Lent.{levels_of};
 ghost use Rattle.marking.specs.Judged.{root_right, place_right, record_right, judged};
-ghost use Rattle.marker_edges.specs.Parent.{numbers_in};
 ghost use Rattle.marker.specs.Fields.{fields_read, record_in};
 
 use crate::Fields;
-use marker_edges::Parent;
-use refusal::{Checked, Refusal};
+use constraint::Levels;
+use marker_edges::{Parent, Table};
+use refusal::Refusal;
 use word::{FIRST, LOWER, NODES, NodeNumber, RECORD, UPPER};
 
 // The fields of record k of the table.
@@ -33,24 +33,14 @@ fn past_edges(first: u32, end: u32) -> usize
 }
 
 // Whether a record is right, wherever it stands.
-fn record_right<'a>(
-    coefs: &'a [u32],
-    ends: &'a [u32],
-    rests: &'a [u32],
-    table: &[u32],
-    known: usize,
-    edges: &[u32],
-    x: Fields,
-) -> bool
-    requires lent { Lent coefs.now ends.now rests.now }
-    requires known { known ≡ numbers_in table.now }
-    ensures { result ≡ record_right (levels_of coefs.now ends.now) (records table.now) edges.now (record_in x) }
+fn record_right(levels: Levels<'_>, table: Table<'_>, edges: &[u32], x: Fields) -> bool
+    ensures { result ≡ record_right (levels_of levels.entry.coefficients.now levels.entry.ends.now) (records table.entry.words.now) edges.now (record_in x) }
 {
     let level = x.level as usize;
     if level < 1 {
         return false;
     }
-    if coefs.len() < level {
+    if levels.coefficients.len() < level {
         return false;
     }
     if x.upper < x.lower {
@@ -58,7 +48,7 @@ fn record_right<'a>(
     }
     let i = level - 1;
     let from = x.first as usize;
-    let to = past_edges(x.first, ends[i]);
+    let to = past_edges(x.first, levels.ends[i]);
     if edges.len() < to {
         return false;
     }
@@ -66,9 +56,9 @@ fn record_right<'a>(
         below: x.level + 1,
         lower: x.lower,
         upper: x.upper,
-        rest: rests[level],
+        rest: levels.rests[level],
     };
-    marker_edges::row_right(table, known, p, coefs[i], &edges[from..to])
+    marker_edges::row_right(table, p, levels.coefficients[i], &edges[from..to])
 }
 
 // Whether a record is right as the root: it is at level 1 and holds the bound.
@@ -95,30 +85,25 @@ fn place_right(k: NodeNumber, x: Fields, bound: u64) -> bool
 }
 
 // The judgement of a table with records: the first bad one, if there is one.
-pub fn mark_records<'a>(
-    coefs: &'a [u32],
-    ends: &'a [u32],
-    rests: &'a [u32],
+pub fn mark_records(
+    levels: Levels<'_>,
     bound: u64,
     table: &[u32],
     edges: &[u32],
-) -> Checked
-    requires lent { Lent coefs.now ends.now rests.now }
-    requires some { 0 < length table.now / record_words }
-    ensures { result ≡ judged (levels_of coefs.now ends.now) (pos bound) (records table.now) edges.now }
+) -> Result<(), Refusal>
+    requires { 0 < length table.now / record_words }
+    ensures { result ≡ judged (levels_of levels.entry.coefficients.now levels.entry.ends.now) (pos bound) (records table.now) edges.now }
 {
     let count = table.len() / RECORD;
-    let known = marker_edges::numbers(table);
-    let mut k = 0;
-    'records: while k < count {
+    let numbered = Table::new(table);
+    'records: for k in 0..count {
         let x = read(table, NodeNumber(k));
         if !place_right(NodeNumber(k), x, bound) {
-            return Checked::Refused(Refusal::BadRecord(k));
+            return Err(Refusal::BadRecord(k));
         }
-        if !record_right(coefs, ends, rests, table, known, edges, x) {
-            return Checked::Refused(Refusal::BadRecord(k));
+        if !record_right(levels, numbered, edges, x) {
+            return Err(Refusal::BadRecord(k));
         }
-        k += 1;
     }
-    Checked::Passed
+    Ok(())
 }

@@ -1,47 +1,28 @@
 -- THE TESTS OF AN EDGE AND OF A ROW, turn by turn: what each branch of the code says of the definition. Assumes nothing.
 use mathlib.Core.Path.{◌≡◌, refl, sym, ap, ◌∙◌}
 use mathlib.Core.List.{List}
-use mathlib.Core.Bool.{Bool, true, false, ◌&&◌, and-true, and-false}
+use mathlib.Core.Bool.{Bool, true, false, ◌&&◌, and-false}
 use Prim.Native.Nat.{ℕ, suc, ◌+◌, ◌*◌, ◌≤◌, ◌<◌}
-use native.Mathlib.Nat.{le_trans, mul-zero, mul-suc, mul-le-mul}
+use native.Mathlib.Nat.{mul-suc}
 use native.Mathlib.Omega.{arith}
 use native.Mathlib.Numerals.{add-one}
-use lib.Dec.{ltb, leb, eqb}
+use lib.Dec.{ltb, eqb}
 use lib.ListN.{length, get_or, drop, drop_of_length-le}
 use lib.Seq.{drop-cons}
-use borrow.Author.Tests.{ltb-true, leb-true, leb-false, lt-ltb, le-ltb, le-leb, lt-leb, eq-eqb, ne_eqb}
+use borrow.Author.Tests.{ltb-true, lt-ltb, eq-eqb, ne_eqb}
 use Rattle.word.specs.Word.{kind}
-use Rattle.word.specs.Edge.{Edge, F, T, to, edge_in, edge_of}
-use Rattle.word.specs.declared.Child.{Child}
+use Rattle.word.specs.Edge.{Edge, to, edge_in}
 use Rattle.word.specs.Record.{record_words, lower_word, upper_word, no_record, records}
-use Rattle.diagram.specs.Label.{Label, up}
-use Rattle.diagram.specs.Constraint.{last_end, last_coefficient}
+use Rattle.diagram.specs.Label.{up}
 use Rattle.word.proofs.Flat.{records_length, record_at_lem}
 use Rattle.marking.specs.HandIn.{own_label}
 use Rattle.marking.specs.Judged.{interval_of, covers, edge_right, each_value}
 use Rattle.marker_edges.specs.declared.Parent.{Parent}
-use Rattle.marker_edges.specs.Parent.{parent_label, numbers_in, end_test, edge_test, RowFits}
-
--- a label that has begun late, and one that has not
-pub starts_late : (b : Label) (o lower upper : ℕ) → b.lower < o + lower → false ≡ covers (up o (interval_of (record { lower = lower; upper = upper }))) b
-starts_late b o lower upper h = rw (lt-leb (o + lower) b.lower h)
-
-pub starts_in_time : (b : Label) (o lower upper : ℕ) → o + lower ≤ b.lower → leb b.upper (o + upper) ≡ covers (up o (interval_of (record { lower = lower; upper = upper }))) b
-starts_in_time b o lower upper h = rw (le-leb (o + lower) b.lower h) (go (leb b.upper (o + upper)) refl)
-  where
-    go : (t : Bool) → leb b.upper (o + upper) ≡ t → t ≡ ltb b.upper (o + suc upper)
-    go true e = sym (lt-ltb b.upper (o + suc upper) (let h = leb-true b.upper (o + upper) e in omega arith))
-    go false e = sym (le-ltb b.upper (o + suc upper) (let h = leb-false b.upper (o + upper) e in omega arith))
+use Rattle.marker_edges.specs.Parent.{parent_label, numbers_in, end_test, edge_test}
 
 -- ---- The end of an edge
 
 module _ (t : List ℕ) (p : Parent) (o : ℕ) where
-  pub end_f : ltb p.upper o ≡ end_test t p o F
-  end_f = let z : o + 0 ≡ o = omega arith in rw z refl
-
-  pub end_t : leb (o + p.rest) p.lower ≡ end_test t p o T
-  end_t = sym (and-true (leb (o + p.rest) p.lower))
-
   module _ (k : ℕ) where
     -- a number beyond the records', or beyond the words of kind 0
     pub number_past : numbers_in t ≤ k → false ≡ end_test t p o (to k)
@@ -71,10 +52,6 @@ module _ (t : List ℕ) (p : Parent) (o : ℕ) where
       pub same_level : get_or t (k * record_words) 0 ≡ p.below → (b : Bool) → b ≡ child_covers → b ≡ end_test t p o (to k)
       same_level h b e = e ∙ sym (node_test_lem ∙ rw (eq-eqb (get_or t (k * record_words) 0) p.below h) refl)
 
-  -- the test of a child that is known to be another
-  pub same_child : (x y : Child) → x ≡ y → (b : Bool) → b ≡ end_test t p o (edge_of y) → b ≡ end_test t p o (edge_of x)
-  same_child x y e b f = f ∙ ap (λ (c : Child). end_test t p o (edge_of c)) (sym e)
-
   -- the test by an edge's word is the one by its end
   pub by_end : (w : ℕ) (e : Edge) → e ≡ edge_in w → (b : Bool) → b ≡ end_test t p o e → b ≡ edge_test t p o w
   unfolding edge_right
@@ -92,13 +69,7 @@ module _ (t : List ℕ) (p : Parent) (coef : ℕ) (ws : List ℕ) where
     pub taken : offset ≡ coef * j
     pub left : each_value test 0 ws ≡ each_value test j (drop j ws)
 
-  pub row_starts : EdgesBefore 0 0
-  row_starts = record { within = omega arith; taken = sym (mul-zero coef); left = refl }
-
   module _ (offset j : ℕ) (a : EdgesBefore offset j) where
-    pub offset_small : RowFits p coef (length ws) → offset ≤ 1048560
-    offset_small s = let m : coef * j ≤ last_coefficient * suc last_end = mul-le-mul s.1 (le_trans a.within s.0) in omega (arith, a.taken)
-
     module _ (h : j < length ws) where
       step : each_value test 0 ws ≡ (edge_test t p offset (get_or ws j 0) && each_value test (suc j) (drop (suc j) ws))
       unfolding each_value

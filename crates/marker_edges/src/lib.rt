@@ -21,67 +21,71 @@ pub struct Parent {
     pub rest: u32,
 }
 
-// The numbers that an edge to a record of the table may have.
-pub fn numbers(table: &[u32]) -> usize
-    ensures { result ≡ numbers_in table.now }
-{
-    let full = table.len() / RECORD;
-    if full < NUMBERS { full } else { NUMBERS }
+// A table's words, and the numbers that an edge to one of its records may have.
+#[derive(Clone, Copy)]
+pub struct Table<'a> {
+    pub words: &'a [u32],
+    pub known: usize,
+    pub ghost numbered: { known ≡ numbers_in words.now },
+}
+
+impl<'a> Table<'a> {
+    pub fn new(words: &'a [u32]) -> Table<'a>
+        ensures { result.words.now ≡ words.now }
+    {
+        Table {
+            words,
+            known: (words.len() / RECORD).min(NUMBERS),
+        }
+    }
 }
 
 // Whether a child's label, moved up by an offset, covers that of its parent.
 fn holds_all(p: Parent, offset: u32, lower: u32, upper: u32) -> bool
     ensures { result ≡ covers (up offset (interval_of (record { lower = lower; upper = upper }))) (parent_label p) }
 {
-    if (p.lower as u64) < offset as u64 + lower as u64 {
-        return false;
-    }
-    p.upper as u64 <= offset as u64 + upper as u64
+    let offset = offset as u64;
+    offset + lower as u64 <= p.lower as u64 && p.upper as u64 <= offset + upper as u64
 }
 
 // Whether an edge to a record is right, where its value takes an offset.
-fn node_right(table: &[u32], known: usize, p: Parent, offset: u32, k: NodeNumber) -> bool
-    requires { known ≡ numbers_in table.now }
-    ensures { result ≡ end_test table.now p offset (to k.0) }
+fn node_right(table: Table<'_>, p: Parent, offset: u32, k: NodeNumber) -> bool
+    ensures { result ≡ end_test table.entry.words.now p offset (to k.0) }
 {
-    if known <= k.0 {
+    if table.known <= k.0 {
         return false;
     }
     let at = k.0 * RECORD;
-    if table[at] != p.below {
+    if table.words[at] != p.below {
         return false;
     }
-    holds_all(p, offset, table[at + LOWER], table[at + UPPER])
+    holds_all(p, offset, table.words[at + LOWER], table.words[at + UPPER])
 }
 
 // Whether an edge is right, by its end.
-fn edge_right(table: &[u32], known: usize, p: Parent, offset: u32, end: Child) -> bool
-    requires known { known ≡ numbers_in table.now }
-    requires small { offset + p.rest ≤ 4294967295 }
-    ensures { result ≡ end_test table.now p offset (edge_of end) }
+fn edge_right(table: Table<'_>, p: Parent, offset: u32, end: Child) -> bool
+    requires { offset + p.rest ≤ 4294967295 }
+    ensures { result ≡ end_test table.entry.words.now p offset (edge_of end) }
 {
     match end {
-        Child::Node(k) => node_right(table, known, p, offset, k),
+        Child::Node(k) => node_right(table, p, offset, k),
         Child::False => p.upper < offset,
         Child::True => offset + p.rest <= p.lower,
     }
 }
 
 // Whether each edge of a record is right.
-pub fn row_right(table: &[u32], known: usize, p: Parent, coef: u32, edges: &[u32]) -> bool
-    requires known { known ≡ numbers_in table.now }
-    requires small { RowFits p coef (length edges.now) }
-    ensures { result ≡ each_value (λ j. edge_test table.now p (coef * j)) 0 edges.now }
+pub fn row_right(table: Table<'_>, p: Parent, coef: u32, edges: &[u32]) -> bool
+    requires { RowFits p coef (length edges.now) }
+    ensures { result ≡ each_value (λ j. edge_test table.entry.words.now p (coef * j)) 0 edges.now }
 {
     let mut offset: u32 = 0;
-    let mut j = 0;
-    'edges: while j < edges.len() {
-        let end = word::child_of(edges[j]);
-        if !edge_right(table, known, p, offset, end) {
+    'edges: for &w in edges {
+        let end = Child::from(w);
+        if !edge_right(table, p, offset, end) {
             return false;
         }
         offset += coef;
-        j += 1;
     }
     true
 }

@@ -9,8 +9,8 @@ use lib.ListN.{length, get_or}
 use Rattle.word.specs.Record.{Record, no_record}
 use Rattle.word.proofs.Tests.{both_true, true_both}
 use Rattle.refusal.specs.Table.{and_then, unless}
-use Rattle.refusal.specs.declared.Checked.{Checked}
-use Rattle.refusal.specs.declared.Checked.TheVariants.{Passed, Refused}
+use Rattle.refusal.specs.Table.{Checked}
+use Rattle.std.specs.Prelude.{Ok, Err}
 use Rattle.refusal.specs.declared.Refusal.TheVariants.{BadRecord}
 use Rattle.marking.specs.Judged.{each_value, each_record}
 
@@ -32,8 +32,8 @@ passes_value test j (w ∷ ws) p =
 
 -- THE RECORDS, from number k on: all pass, or the refusal names the first that fails
 abbrev pub Told : (ℕ → Record → Bool) → ℕ → List Record → Checked → Type 0
-Told test k xs Passed = (i : ℕ) → i < length xs → test (k + i) (get_or xs i no_record) ≡ true
-Told test k xs (Refused x) =
+Told test k xs (Ok tt) = (i : ℕ) → i < length xs → test (k + i) (get_or xs i no_record) ≡ true
+Told test k xs (Err x) =
     (i : ℕ) × (x ≡ BadRecord (k + i)) × (i < length xs) × (test (k + i) (get_or xs i no_record) ≡ false) × ((m : ℕ) → m < i → test (k + m) (get_or xs m no_record) ≡ true)
 
 -- one record more in front
@@ -44,8 +44,8 @@ module _ (test : ℕ → Record → Bool) (k : ℕ) (x : Record) (xs : List Reco
   more_pass n t (suc i) h = let f : k + suc i ≡ suc k + i = omega arith in rw f (t i (le_of_suc-le-suc h))
 
   told_more : (c : Checked) → Told test (suc k) xs c → Told test k (x ∷ xs) c
-  told_more Passed t = more_pass (length xs) t
-  told_more (Refused r) t =
+  told_more (Ok tt) t = more_pass (length xs) t
+  told_more (Err r) t =
       let f : k + suc t.0 ≡ suc k + t.0 = omega arith in
       (suc t.0, rw f t.1, omega (arith, t.2), rw f t.3, more_pass t.0 t.4)
 

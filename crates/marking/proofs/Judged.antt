@@ -13,8 +13,9 @@ use borrow.Author.Tests.{ltb-true, ltb-false, leb-true, eqb-true, lt-ltb, le-leb
 use Rattle.word.specs.Record.{Record, no_record, most_nodes}
 use Rattle.word.proofs.Tests.{both_true, true_both, between_is}
 use Rattle.refusal.specs.Table.{unless}
-use Rattle.refusal.specs.declared.Checked.{Checked}
-use Rattle.refusal.specs.declared.Checked.TheVariants.{Passed, Refused}
+use Rattle.refusal.specs.Table.{Checked}
+use Rattle.std.specs.Prelude.{Ok, Err}
+use Rattle.refusal.specs.Table.{passed}
 use Rattle.refusal.specs.declared.Refusal.TheVariants.{BadRecord}
 use Rattle.diagram.specs.Level.{Level, R}
 use Rattle.diagram.specs.Label.{Label, Holds, label_t}
@@ -105,17 +106,17 @@ module _ (ls : List Level) (a : ℤ) (xs : List Record) (es : List ℕ) where
 
   -- WHAT A JUDGEMENT SAYS: passed, that the hand-in is right; refused, by refusal 20 and no other, which is the first bad record
   abbrev pub Tells : Checked → Type 0
-  Tells Passed = RightHandIn ls a xs es
-  Tells (Refused x) = (n : ℕ) × (x ≡ BadRecord n) × FirstBad ls a xs es n
+  Tells (Ok tt) = RightHandIn ls a xs es
+  Tells (Err x) = (n : ℕ) × (x ≡ BadRecord n) × FirstBad ls a xs es n
 
   -- a record that fails its test is not right
   wrong_at : (n : ℕ) → right_at ls a xs es n (get_or xs n no_record) ≡ false → RightAt ls a xs es n → ⊥
   wrong_at n e r = true≢false (sym ((right_at_lem n).1 r) ∙ e)
 
   told_says : (c : Checked) → 0 < length xs → Told (right_at ls a xs es) 0 xs c → Tells c
-  told_says Passed h t =
+  told_says (Ok tt) h t =
       record { each = λ n k. (right_at_lem n).0 (let e : 0 + n ≡ n = omega arith in rw e at (t n k)); empty = λ e. absurd (omega arith) }
-  told_says (Refused x) h t =
+  told_says (Err x) h t =
       let e : 0 + t.0 ≡ t.0 = omega arith in (
         t.0,
         rw e at t.1,
@@ -167,23 +168,23 @@ pub one_bad : (ls : List Level) (a : ℤ) (xs : List Record) (es : List ℕ) (m 
 one_bad ls a xs es m n p q = omega (arith, not_before ls a xs es m n p q, not_before ls a xs es n m q p)
 
 -- IT PASSES just the right hand-ins
-pub passes_right : (ls : List Level) (a : ℤ) (xs : List Record) (es : List ℕ) → judged ls a xs es ≡ Passed ↔ RightHandIn ls a xs es
+pub passes_right : (ls : List Level) (a : ℤ) (xs : List Record) (es : List ℕ) → judged ls a xs es ≡ passed ↔ RightHandIn ls a xs es
 passes_right ls a xs es = (λ e. subst (Tells ls a xs es) e (judged_says ls a xs es), λ r. go (judged ls a xs es) r (judged_says ls a xs es))
   where
-    go : (c : Checked) → RightHandIn ls a xs es → Tells ls a xs es c → c ≡ Passed
-    go Passed r s = refl
-    go (Refused x) r s = absurd (right_not_bad ls a xs es s.0 r s.2)
+    go : (c : Checked) → RightHandIn ls a xs es → Tells ls a xs es c → c ≡ passed
+    go (Ok tt) r s = refl
+    go (Err x) r s = absurd (right_not_bad ls a xs es s.0 r s.2)
 
 -- IT NAMES the first bad record
-pub names_bad : (ls : List Level) (a : ℤ) (xs : List Record) (es : List ℕ) (n : ℕ) → judged ls a xs es ≡ Refused (BadRecord n) ↔ FirstBad ls a xs es n
+pub names_bad : (ls : List Level) (a : ℤ) (xs : List Record) (es : List ℕ) (n : ℕ) → judged ls a xs es ≡ Err (BadRecord n) ↔ FirstBad ls a xs es n
 names_bad ls a xs es n = (λ e. said (subst (Tells ls a xs es) e (judged_says ls a xs es)), λ b. go (judged ls a xs es) b (judged_says ls a xs es))
   where
-    said : Tells ls a xs es (Refused (BadRecord n)) → FirstBad ls a xs es n
+    said : Tells ls a xs es (Err (BadRecord n)) → FirstBad ls a xs es n
     said s = let e : s.0 ≡ n = cc s.1 in rw e at s.2
 
-    go : (c : Checked) → FirstBad ls a xs es n → Tells ls a xs es c → c ≡ Refused (BadRecord n)
-    go Passed b s = absurd (right_not_bad ls a xs es n s b)
-    go (Refused x) b s = let e = one_bad ls a xs es s.0 n s.2 b in cc s.1
+    go : (c : Checked) → FirstBad ls a xs es n → Tells ls a xs es c → c ≡ Err (BadRecord n)
+    go (Ok tt) b s = absurd (right_not_bad ls a xs es n s b)
+    go (Err x) b s = let e = one_bad ls a xs es s.0 n s.2 b in cc s.1
 
 -- A BOUND BELOW 0 is held by no label: the hand-in without records is right, and in any other record 0 is bad
 pub below_zero : (ls : List Level) (z : ℕ) (xs : List Record) (es : List ℕ) → judged ls (negsuc z) xs es ≡ unless (eqb (length xs) 0) (BadRecord 0)

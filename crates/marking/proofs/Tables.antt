@@ -11,8 +11,9 @@ use lib.ListN.{length, get_or, length-append}
 use borrow.Author.Tests.{ltb-true, ltb-false}
 use Rattle.word.specs.Edge.{Edge}
 use Rattle.word.specs.Record.{Record, no_record, laid, records, most_nodes}
-use Rattle.word.proofs.Records.{flat_behind, flat_records}
-use Rattle.refusal.specs.declared.Checked.TheVariants.{Passed, Refused}
+use Rattle.word.proofs.Laid.{flat_behind, flat_records}
+use Rattle.std.specs.Prelude.{Err}
+use Rattle.refusal.specs.Table.{passed}
 use Rattle.refusal.specs.declared.Refusal.TheVariants.{BadRecord}
 use Rattle.diagram.specs.Level.{Level, AllAscend, R}
 use Rattle.diagram.specs.Label.{Holds}
@@ -91,17 +92,17 @@ module _ (ls : List Level) (a : ℤ) (g : AllAscend ls) (few : length (table ls 
   table_handed = written_right ls a (table ls a) (root ls a) (table_right ls a g) few behind (table_top ls a g)
 
   -- THE TABLE OF A CONSTRAINT, as words and with whatever stands behind its edge list, is accepted
-  pub table_passes : judged ls a (records (table_words (table ls a))) (edge_words (table ls a) ++ behind) ≡ Passed
+  pub table_passes : judged ls a (records (table_words (table ls a))) (edge_words (table ls a) ++ behind) ≡ passed
   table_passes =
       ap (λ (xs : List Record). judged ls a xs (edge_words (table ls a) ++ behind)) (flat_records own_records)
       ∙ (passes_right ls a own_records (edge_words (table ls a) ++ behind)).1 table_handed
 
   -- but WITH A RECORD OF ZEROS BEHIND IT the first bad record is that one: level 0 is no term's
-  pub zeros_bad : (rest : List ℕ) → judged ls a (records (table_words (table ls a) ++ (laid no_record ++ rest))) (edge_words (table ls a) ++ behind) ≡ Refused (BadRecord (length (table ls a)))
+  pub zeros_bad : (rest : List ℕ) → judged ls a (records (table_words (table ls a) ++ (laid no_record ++ rest))) (edge_words (table ls a) ++ behind) ≡ Err (BadRecord (length (table ls a)))
   unfolding records
   zeros_bad rest =
       let es = edge_words (table ls a) ++ behind in
       let all = own_records ++ no_record ∷ records rest in
       ap (λ (xs : List Record). judged ls a xs es) (flat_behind own_records (laid no_record ++ rest))
       ∙ (names_bad ls a all es (length own_records)).1 (first_behind ls a own_records no_record (records rest) es table_handed (λ r. absurd (omega (arith, r.above))))
-      ∙ ap (λ (n : ℕ). Refused (BadRecord n)) (records_from-length (table ls a) 0 0 (table ls a))
+      ∙ ap (λ (n : ℕ). Err (BadRecord n)) (records_from-length (table ls a) 0 0 (table ls a))

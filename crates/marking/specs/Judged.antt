@@ -4,8 +4,8 @@ use Rattle.word.specs.Word.{kind}
 use Rattle.word.specs.Edge.{Edge, F, T, to, edge_in}
 use Rattle.word.specs.Record.{Record, no_record, most_nodes}
 use Rattle.refusal.specs.Table.{and_then, unless}
-use Rattle.refusal.specs.declared.Checked.{Checked}
-use Rattle.refusal.specs.declared.Checked.TheVariants.{Passed}
+use Rattle.refusal.specs.Table.{Checked}
+use Rattle.refusal.specs.Table.{passed}
 use Rattle.refusal.specs.declared.Refusal.TheVariants.{BadRecord}
 use Rattle.diagram.specs.Level.{Level, R}
 use Rattle.diagram.specs.Label.{Start, no_start, from, End, no_end, below, Interval, interval, label_t, label_f, up, Label}
@@ -78,7 +78,7 @@ right_at ls a xs es k x = place_right a k x && record_right ls xs es x
 
 -- The first record that fails a test, from a number on.
 unfoldable pub each_record : (ℕ → Record → Bool) → ℕ → List Record → Checked
-each_record test k [] = Passed
+each_record test k [] = passed
 each_record test k (x ∷ xs) =
     let more : Checked = each_record test (suc k) xs in
     and_then (unless (test k x) (BadRecord k)) more

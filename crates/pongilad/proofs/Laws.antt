@@ -1,5 +1,7 @@
 -- Laws of the replies as numbers: a refusal's fields from its number and place, and the encoder's promise carried from its reply to the definition of that reply.
 -- Assumes nothing.
+use Rattle.filler.specs.declared.Counts.{Counts}
+use Rattle.std.proofs.Common.{Result}
 use mathlib.Core.Path.{◌≡◌, sym, ap, subst, ◌∙◌}
 use mathlib.Core.List.{List}
 use Prim.Native.Nat.{ℕ}
@@ -8,7 +10,6 @@ use Rattle.refusal.specs.declared.Refusal.{Refusal}
 use Rattle.propagator.specs.declared.Propagated.{Propagated}
 use Rattle.propagator.specs.Reply.{Propagates}
 use Rattle.limits.specs.declared.Limits.{Limits}
-use Rattle.encoder_levels.specs.declared.Encoded.{Encoded}
 use Rattle.encoder.specs.Promise.{Promise}
 use Rattle.pongilad.specs.declared.EncodedReply.{EncodedReply}
 use Rattle.pongilad.specs.declared.PropagatedReply.{PropagatedReply}
@@ -20,11 +21,11 @@ pub refusal_fields : {E S : Type 0} (fields : E → S) (refuse : Refusal → E) 
 refusal_fields fields refuse given same v x n p is en ep = (λ i. given (en i) (ep i)) ∙ same x ∙ sym (ap fields is)
 
 -- The propagating call's promise from the propagator's.
-pub settles : (bs ws before after : List ℕ) (v : Propagated) (r : PropagatedReply) → r ≡ propagated_fields v → Propagates bs ws before after v
+pub settles : (bs ws before after : List ℕ) (v : Result Propagated Refusal) (r : PropagatedReply) → r ≡ propagated_fields v → Propagates bs ws before after v
     → Settles bs ws before after r
 settles bs ws before after v r e p = record { fields = e ∙ ap propagated_fields p.reply.same; buffer = p.buffer }
 
 -- An encoding call's promise from the encoder's, which names its own reply.
-pub encodes : (l : Limits) (ws t e w t' e' w' : List ℕ) (x : Encoded) (r : EncodedReply) → r ≡ encoded_fields x → Promise l ws t e w t' e' w' x → Encodes l ws t e w t' e' w' r
+pub encodes : (l : Limits) (ws t e w t' e' w' : List ℕ) (x : Result Counts Refusal) (r : EncodedReply) → r ≡ encoded_fields x → Promise l ws t e w t' e' w' x → Encodes l ws t e w t' e' w' r
 encodes l ws t e w t' e' w' x r fields p =
     record { fields = fields ∙ ap encoded_fields p.reply.same; lists = subst (Promise l ws t e w t' e' w') p.reply.same p }

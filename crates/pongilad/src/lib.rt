@@ -1,10 +1,10 @@
-// The calls of the static library, for C and Rust: each slice is a pointer and a length, each reply a struct of numbers. include/pongilad.h is their C side.
+// The calls of the static library, for C and Rust: each slice is a pointer and a length, each reply a struct of numbers. include/pongilad.h is their C side,
+// which is why a reply stays a struct with a number for each kind, and is no Result or Option: it is made from one at the end of its call.
 #![tactic(auto)]
 
-ghost use Rattle.std.specs.Prelude.{◌≡◌};
+ghost use Rattle.std.specs.Prelude.{◌≡◌, Err};
 ghost use Rattle.word.specs.Record.{records};
 ghost use Rattle.limits.specs.Limits.{main_limits};
-ghost use Rattle.encoder_levels.specs.declared.Encoded.TheVariants.{Refused as EncodedRefused};
 ghost use Rattle.finder.specs.Find.{find_in};
 ghost use Rattle.finder_records.specs.Nodes.{records_of};
 ghost use Rattle.comparer.specs.Bytes.{compared};
@@ -14,17 +14,14 @@ ghost use Rattle.dimacs_reader.specs.Reads.{Reads};
 ghost use Rattle.dimacs_writer.specs.Writes.{Writes};
 ghost use Rattle.pongilad.specs.Fields.{encoded_fields, found_fields, tested_fields, propagated_fields, marked_fields, compared_fields, text_fields, Encodes, Settles, Converts};
 
-use comparer::Compared;
 use constraint::Constraint;
-use dimacs_text::Converted;
-use encoder_levels::Encoded;
-use finder::Found;
+use filler::Counts;
 use finder_records::Node;
 use limits::Limits;
 use propagator::Propagated;
-use refusal::{Checked, Refusal};
-use tester::Tested;
-use word::Remainder;
+use refusal::Refusal;
+use tester::NotTrue;
+use word::{NodeNumber, Remainder};
 
 // The encoder's reply: number 0 and the counts, or a refusal's number and place.
 #[repr(C)]
@@ -91,142 +88,158 @@ pub struct TextReply {
 }
 
 // The fields of an encoder's refusal.
-fn refused_reply(x: Refusal) -> EncodedReply
-    ensures { result ≡ encoded_fields (EncodedRefused x) }
-{
-    EncodedReply {
-        number: x.number() as u64,
-        place: x.place() as u64,
-        nodes: 0,
-        edges: 0,
-        words: 0,
+impl From<Refusal> for EncodedReply {
+    ghost from_gives = { λ x reply. reply ≡ encoded_fields (Err x) };
+
+    fn from(x: Refusal) -> EncodedReply {
+        EncodedReply {
+            number: x.number() as u64,
+            place: x.place() as u64,
+            nodes: 0,
+            edges: 0,
+            words: 0,
+        }
     }
 }
 
 // The fields of an encoder's reply.
-fn encoded_reply(x: Encoded) -> EncodedReply
-    ensures { result ≡ encoded_fields x }
-{
-    match x {
-        Encoded::Accepted(n) => EncodedReply {
-            number: 0,
-            place: 0,
-            nodes: n.nodes as u64,
-            edges: n.edges as u64,
-            words: n.words as u64,
-        },
-        Encoded::Refused(y) => refused_reply(y),
+impl From<Result<Counts, Refusal>> for EncodedReply {
+    ghost from_gives = { λ x reply. reply ≡ encoded_fields x };
+
+    fn from(x: Result<Counts, Refusal>) -> EncodedReply {
+        match x {
+            Ok(n) => EncodedReply {
+                number: 0,
+                place: 0,
+                nodes: n.nodes as u64,
+                edges: n.edges as u64,
+                words: n.words as u64,
+            },
+            Err(y) => EncodedReply::from(y),
+        }
     }
 }
 
 // The fields of a finder's reply.
-fn found_reply(x: Found) -> FoundReply
-    ensures { result ≡ found_fields x }
-{
-    match x {
-        Found::At(k) => FoundReply {
-            found: 1,
-            number: k.0 as u64,
-        },
-        Found::Nothing(gap) => FoundReply {
-            found: 0,
-            number: gap as u64,
-        },
+impl From<Result<NodeNumber, usize>> for FoundReply {
+    ghost from_gives = { λ x reply. reply ≡ found_fields x };
+
+    fn from(x: Result<NodeNumber, usize>) -> FoundReply {
+        match x {
+            Ok(k) => FoundReply {
+                found: 1,
+                number: k.0 as u64,
+            },
+            Err(gap) => FoundReply {
+                found: 0,
+                number: gap as u64,
+            },
+        }
     }
 }
 
 // The fields of a clause tester's reply.
-fn tested_reply(x: Tested) -> TestedReply
-    ensures { result ≡ tested_fields x }
-{
-    match x {
-        Tested::AllTrue => TestedReply {
-            verdict: 0,
-            number: 0,
-            place: 0,
-        },
-        Tested::NotTrue(clause, at) => TestedReply {
-            verdict: 1,
-            number: clause as u64,
-            place: at as u64,
-        },
-        Tested::Unfit(y) => TestedReply {
-            verdict: 2,
-            number: y.number() as u64,
-            place: y.place() as u64,
-        },
+impl From<Result<Option<NotTrue>, Refusal>> for TestedReply {
+    ghost from_gives = { λ x reply. reply ≡ tested_fields x };
+
+    fn from(x: Result<Option<NotTrue>, Refusal>) -> TestedReply {
+        match x {
+            Ok(None) => TestedReply {
+                verdict: 0,
+                number: 0,
+                place: 0,
+            },
+            Ok(Some(c)) => TestedReply {
+                verdict: 1,
+                number: c.clause as u64,
+                place: c.at as u64,
+            },
+            Err(y) => TestedReply {
+                verdict: 2,
+                number: y.number() as u64,
+                place: y.place() as u64,
+            },
+        }
     }
 }
 
 // The fields of a propagator's reply.
-fn propagated_reply(x: Propagated) -> PropagatedReply
-    ensures { result ≡ propagated_fields x }
-{
-    match x {
-        Propagated::Settled => PropagatedReply {
-            verdict: 0,
-            number: 0,
-            place: 0,
-        },
-        Propagated::Conflict => PropagatedReply {
-            verdict: 1,
-            number: 0,
-            place: 0,
-        },
-        Propagated::Unfit(y) => PropagatedReply {
-            verdict: 2,
-            number: y.number() as u64,
-            place: y.place() as u64,
-        },
+impl From<Result<Propagated, Refusal>> for PropagatedReply {
+    ghost from_gives = { λ x reply. reply ≡ propagated_fields x };
+
+    fn from(x: Result<Propagated, Refusal>) -> PropagatedReply {
+        match x {
+            Ok(Propagated::Settled) => PropagatedReply {
+                verdict: 0,
+                number: 0,
+                place: 0,
+            },
+            Ok(Propagated::Conflict) => PropagatedReply {
+                verdict: 1,
+                number: 0,
+                place: 0,
+            },
+            Err(y) => PropagatedReply {
+                verdict: 2,
+                number: y.number() as u64,
+                place: y.place() as u64,
+            },
+        }
     }
 }
 
 // The fields of a marker's reply.
-fn marked_reply(x: Checked) -> MarkedReply
-    ensures { result ≡ marked_fields x }
-{
-    match x {
-        Checked::Passed => MarkedReply {
-            right: 1,
-            number: 0,
-            place: 0,
-        },
-        Checked::Refused(y) => MarkedReply {
-            right: 0,
-            number: y.number() as u64,
-            place: y.place() as u64,
-        },
+impl From<Result<(), Refusal>> for MarkedReply {
+    ghost from_gives = { λ x reply. reply ≡ marked_fields x };
+
+    fn from(x: Result<(), Refusal>) -> MarkedReply {
+        match x {
+            Ok(()) => MarkedReply {
+                right: 1,
+                number: 0,
+                place: 0,
+            },
+            Err(y) => MarkedReply {
+                right: 0,
+                number: y.number() as u64,
+                place: y.place() as u64,
+            },
+        }
     }
 }
 
 // The fields of a file comparer's reply.
-fn compared_reply(x: Compared) -> ComparedReply
-    ensures { result ≡ compared_fields x }
-{
-    match x {
-        Compared::Same => ComparedReply { same: 1, word: 0 },
-        Compared::Differs(k) => ComparedReply {
-            same: 0,
-            word: k as u64,
-        },
+impl From<Option<usize>> for ComparedReply {
+    ghost from_gives = { λ x reply. reply ≡ compared_fields x };
+
+    fn from(x: Option<usize>) -> ComparedReply {
+        match x {
+            None => ComparedReply { same: 1, word: 0 },
+            Some(k) => ComparedReply {
+                same: 0,
+                word: k as u64,
+            },
+        }
     }
 }
 
 // The fields of the reply of a call that writes or reads text.
-fn text_reply(x: Converted) -> TextReply
-    ensures { result ≡ text_fields x }
-{
-    match x {
-        Converted::Length(n) => TextReply {
-            number: 0,
-            place: 0,
-            length: n as u64,
-        },
-        Converted::Refused(y) => TextReply {
-            number: y.number() as u64,
-            place: y.place() as u64,
-            length: 0,
-        },
+impl From<Result<usize, Refusal>> for TextReply {
+    ghost from_gives = { λ x reply. reply ≡ text_fields x };
+
+    fn from(x: Result<usize, Refusal>) -> TextReply {
+        match x {
+            Ok(n) => TextReply {
+                number: 0,
+                place: 0,
+                length: n as u64,
+            },
+            Err(y) => TextReply {
+                number: y.number() as u64,
+                place: y.place() as u64,
+                length: 0,
+            },
+        }
     }
 }
 
@@ -244,7 +257,7 @@ pub extern "C" fn pongilad_encode_with(
 {
     let limits = Limits { terms, nodes };
     let x = encoder::encode_with(limits, words, table, edges, clauses);
-    encoded_reply(x)
+    EncodedReply::from(x)
 }
 
 // The same under the main limits. The check stands here and not behind a call of the one above: that makes 20 nanoseconds, which tell at 3 nodes.
@@ -260,10 +273,10 @@ pub extern "C" fn pongilad_encode(
     let limits = Constraint::main_limits();
     let plain = constraint_words::is_plain(words);
     match Constraint::check_by(limits, words, plain) {
-        Checked::Refused(x) => refused_reply(x),
-        Checked::Passed => {
+        Err(x) => EncodedReply::from(x),
+        Ok(()) => {
             let x = encoder::encode_passed(limits, words, plain, table, edges, clauses);
-            encoded_reply(x)
+            EncodedReply::from(x)
         }
     }
 }
@@ -274,7 +287,7 @@ pub extern "C" fn pongilad_find(table: &[u32], level: u32, remainder: u32) -> Fo
     ensures { result ≡ found_fields (find_in (records table.now) level remainder) }
 {
     let x = finder::find(table, level, Remainder(remainder));
-    found_reply(x)
+    FoundReply::from(x)
 }
 
 // The same for a table that is a list of records.
@@ -283,7 +296,7 @@ pub extern "C" fn pongilad_find_node(nodes: &[Node], level: u32, remainder: u32)
     ensures { result ≡ found_fields (find_in (records_of nodes.now) level remainder) }
 {
     let x = finder_records::find(nodes, level, Remainder(remainder));
-    found_reply(x)
+    FoundReply::from(x)
 }
 
 // Whether every clause is true under the values, and if not, which is the first that is false or what is refused.
@@ -292,7 +305,7 @@ pub extern "C" fn pongilad_test(values: &[u8], clauses: &[u32]) -> TestedReply
     ensures { result ≡ tested_fields (tested values.now clauses.now) }
 {
     let x = tester::test(values, clauses);
-    tested_reply(x)
+    TestedReply::from(x)
 }
 
 // All that unit propagation settles from value bytes of 0 (false), 1 (true) and 2 (open); or a conflict, and the starting bytes; or what is refused.
@@ -305,7 +318,7 @@ pub extern "C" fn pongilad_propagate(
     ensures { Settles values.now clauses.now settled.old settled.new result }
 {
     let x = propagator::propagate(values, clauses, settled);
-    propagated_reply(x)
+    PropagatedReply::from(x)
 }
 
 // Whether the table and the edge list are a right drawing of the constraint that the words state, and if not, what is refused or which is the first bad record.
@@ -314,7 +327,7 @@ pub extern "C" fn pongilad_mark(words: &[u32], table: &[u32], edges: &[u32]) -> 
     ensures { result ≡ marked_fields (marked_reply words.now table.now edges.now) }
 {
     let x = marker::mark(words, table, edges);
-    marked_reply(x)
+    MarkedReply::from(x)
 }
 
 // Whether the bytes are those of the words, and if not, where they part.
@@ -323,7 +336,7 @@ pub extern "C" fn pongilad_compare(bytes: &[u8], words: &[u32]) -> ComparedReply
     ensures { result ≡ compared_fields (compared bytes.now words.now) }
 {
     let x = comparer::compare(bytes, words);
-    compared_reply(x)
+    ComparedReply::from(x)
 }
 
 // The DIMACS text of a clause list, with zeros behind it.
@@ -332,7 +345,7 @@ pub extern "C" fn pongilad_write(clauses: &[u32], text: &mut [u8]) -> TextReply
     ensures { Converts (Writes clauses.now text.old text.new) result }
 {
     let x = dimacs_writer::write(clauses, text);
-    text_reply(x)
+    TextReply::from(x)
 }
 
 // The clause list that a DIMACS text says, with zeros behind it.
@@ -341,5 +354,5 @@ pub extern "C" fn pongilad_read(text: &[u8], clauses: &mut [u32]) -> TextReply
     ensures { Converts (Reads text.now clauses.old clauses.new) result }
 {
     let x = dimacs_reader::read(text, clauses);
-    text_reply(x)
+    TextReply::from(x)
 }

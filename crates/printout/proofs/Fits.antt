@@ -1,6 +1,7 @@
 -- NO TEXT IS LONGER than its buffer with the program's room: a diagram's has at most 131,072 bytes, as numbers, node numbers among them, have at most 8 digits,
 -- and a line 45 bytes besides its children; the clauses' has at most 196,608, as a word takes at most 11.
 -- Assumes nothing.
+use Rattle.std.proofs.Common.{Result}
 use mathlib.Core.Path.{◌≡◌, refl, ap, subst}
 use mathlib.Core.List.{List, [], ◌∷◌, ◌++◌, map}
 use mathlib.Core.Bool.{Bool, true, false, cond}
@@ -15,8 +16,9 @@ use Rattle.text.specs.Decimal.{decimal}
 use Rattle.refusal.specs.Table.{number_of, place_of, unless_refused}
 use Rattle.refusal.specs.declared.Refusal.{Refusal}
 use Rattle.refusal.specs.declared.Refusal.TheVariants.{NoWords, WrongKind, TermCount, DomainEnd, ZeroCoefficient, TooManyNodes, TooManyEdges, TooManyWords, ValueByte, ClauseWord, UnknownBoolean, LiteralCount, OpenClause, NoRoom, NotDimacs, WrongRelation, LowerEnd, BufferLength, BadRecord}
-use Rattle.refusal.specs.declared.Checked.{Checked}
-use Rattle.refusal.specs.declared.Checked.TheVariants as check
+use Rattle.refusal.specs.Table.{Checked}
+use Rattle.std.specs.Prelude.{Ok, Err}
+use Rattle.refusal.specs.Table.{passed}
 use Rattle.diagram.specs.Table.{Node}
 use Rattle.diagram.specs.Claim.{node_at}
 use Rattle.diagram.specs.Entering.{entering}
@@ -33,8 +35,6 @@ use Rattle.constraint_words.proofs.Laws.{checked_within}
 use Rattle.constraint_words.proofs.Refusals.{Said, placed_within}
 use Rattle.constraint.proofs.Laws.{rest_fits}
 use Rattle.filler.specs.declared.Counts.{Counts}
-use Rattle.encoder_levels.specs.declared.Encoded.{Encoded}
-use Rattle.encoder_levels.specs.declared.Encoded.TheVariants.{Accepted, Refused}
 use Rattle.encoder_levels.specs.Reply.{counts_within}
 use Rattle.encoder.specs.Encoded.{encoded}
 use Rattle.filler.specs.Filled.{levels_in, nodes_for, root_for, clauses_for}
@@ -205,14 +205,14 @@ words_fit f ws h = go (checked main_limits ws) refl (placed_within main_limits w
     line Diagram x k = omega (arith, refusal_few x (omega arith))
     line Clauses x k = omega (arith, refusal_few x (omega arith))
 
-    reply : (r : Encoded) → checked main_limits ws ≡ check.Passed → Sized main_limits (stated ws) room_table room_edges room_clauses r → length (reply_text f r (nodes_for (stated ws)) (clauses_for (stated ws))) ≤ most f
-    reply (Refused x) p s = line f x (omega (arith, s))
-    reply (Accepted m) p s = text_fits f (stated ws) (checked_within main_limits ws p) m s
+    reply : (r : Result Counts Refusal) → checked main_limits ws ≡ passed → Sized main_limits (stated ws) room_table room_edges room_clauses r → length (reply_text f r (nodes_for (stated ws)) (clauses_for (stated ws))) ≤ most f
+    reply (Err x) p s = line f x (omega (arith, s))
+    reply (Ok m) p s = text_fits f (stated ws) (checked_within main_limits ws p) m s
 
     go : (k : Checked) → checked main_limits ws ≡ k → Said (λ x. place_of x ≤ length ws) k
-        → length (reply_text f (unless_refused Refused k (counts_within main_limits (stated ws) room_table room_edges room_clauses)) (nodes_for (stated ws)) (clauses_for (stated ws))) ≤ most f
-    go check.Passed e a = reply (counts_within main_limits (stated ws) room_table room_edges room_clauses) e (sized_counted main_limits (stated ws) room_table room_edges room_clauses)
-    go (check.Refused x) e a = line f x (omega arith)
+        → length (reply_text f (unless_refused Err k (counts_within main_limits (stated ws) room_table room_edges room_clauses)) (nodes_for (stated ws)) (clauses_for (stated ws))) ≤ most f
+    go (Ok tt) e a = reply (counts_within main_limits (stated ws) room_table room_edges room_clauses) e (sized_counted main_limits (stated ws) room_table room_edges room_clauses)
+    go (Err x) e a = line f x (omega arith)
 
 -- THE BOUND
 pub shown_fits : (f : Form) (bs : List ℕ) → length (shown f bs) ≤ most f

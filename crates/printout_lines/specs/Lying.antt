@@ -1,11 +1,12 @@
 -- A DRAWING IN LENT MEMORY, for what our own functions promise each other. Assumes nothing.
-use Rattle.std.specs.Prelude.{◌≡◌, List, map, ℕ, ◌≤◌, ◌<◌, length, get_or, take}
+use Rattle.refusal.specs.declared.Refusal.{Refusal}
+use Rattle.filler.specs.declared.Counts.{Counts}
+use Rattle.std.specs.Prelude.{◌≡◌, List, map, ℕ, ◌≤◌, ◌<◌, length, get_or, take, Result}
 use Rattle.word.specs.Edge.{F, edge_in}
 use Rattle.diagram.specs.Table.{Node}
 use Rattle.diagram.specs.Claim.{node_at}
 use Rattle.diagram.specs.Flat.{records_from, edge_words, Small}
 use Rattle.word.specs.Record.{Record, used, RecordsFit}
-use Rattle.encoder_levels.specs.declared.Encoded.{Encoded}
 use Rattle.encoder.specs.Promise.{WhenAccepted}
 
 -- The node that a record and the words of its edges hold.
@@ -22,5 +23,5 @@ pub record Lying (ns : List Node) (t : List ℕ) (count : ℕ) (es : List ℕ) (
   pub plain : (n j : ℕ) → n < length ns → j < length (node_at ns n).children → Small (get_or (node_at ns n).children j F)
 
 -- So are those of a reply that has accepted, and the first words of the clause list are cs.
-abbrev pub LyingFor : Encoded → List Node → List ℕ → List ℕ → List ℕ → List ℕ → Type 0
+abbrev pub LyingFor : Result Counts Refusal → List Node → List ℕ → List ℕ → List ℕ → List ℕ → Type 0
 LyingFor r ns cs t es w = WhenAccepted r (λ n. Lying ns t n.nodes es n.edges × (n.words ≤ length w) × (take n.words w ≡ cs))

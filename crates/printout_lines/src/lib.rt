@@ -1,8 +1,8 @@
 // The lines that the programs print of a diagram and of a refusal.
 #![tactic(auto)]
 
-ghost use Rattle.std.specs.Prelude.{◌≡◌, List, ◌++◌, map, ℕ, suc, ◌≤◌};
-ghost use Rattle.word.specs.Record.{RecordsFit, record_at};
+ghost use Rattle.std.specs.Prelude.{◌≡◌, List, ◌++◌, map, ℕ, ◌<◌, ◌≤◌};
+ghost use Rattle.word.specs.Record.{record_at};
 ghost use Rattle.diagram.specs.Table.{Node};
 ghost use Rattle.word.specs.Edge.{edge_in};
 ghost use Rattle.diagram.specs.Flat.{first_place};
@@ -12,7 +12,7 @@ ghost use Rattle.printout_lines.specs.Lying.{Lying, held_node};
 
 use filler::Counts;
 use refusal::Refusal;
-use word::{Child, ENTERING, FIRST, LOWER, NodeNumber, RECORD, UPPER};
+use word::{Child, NodeNumber, Records};
 
 // A space and a number; the place behind them.
 fn put_field(out: &mut [u8], start: usize, n: u32) -> usize
@@ -26,7 +26,7 @@ fn put_field(out: &mut [u8], start: usize, n: u32) -> usize
 fn put_child(out: &mut [u8], at: usize, w: u32) -> usize
     ensures { Wrote (child (edge_in w)) at out.old out.new result }
 {
-    match word::child_of(w) {
+    match Child::from(w) {
         Child::False => text::put(out, at, b'F'),
         Child::True => text::put(out, at, b'T'),
         Child::Node(k) => text::put_number(out, at, k.0),
@@ -38,44 +38,46 @@ fn put_children(out: &mut [u8], start: usize, edges: &[u32]) -> usize
     ensures { Wrote (children (map edge_in edges.now)) start out.old out.new result }
 {
     let mut at = start;
-    let mut j = 0;
-    'children: while j < edges.len() {
+    'children: for &w in edges {
         let next = text::put(out, at, b' ');
-        at = put_child(out, next, edges[j]);
-        j += 1;
+        at = put_child(out, next, w);
     }
     at
 }
 
 // The line of a node, of its record and its edges; the place behind it.
-fn put_node(out: &mut [u8], start: usize, number: NodeNumber, table: &[u32], edges: &[u32]) -> usize
-    requires { RecordsFit (suc number.0) table.now }
-    ensures { Wrote (node_line number.0 (record_at table.now number.0).entering (held_node (record_at table.now number.0) edges.now)) start out.old out.new result }
+fn put_node(
+    out: &mut [u8],
+    start: usize,
+    number: NodeNumber,
+    records: Records<'_>,
+    edges: &[u32],
+) -> usize
+    requires { number.0 < records.count }
+    ensures { Wrote (node_line number.0 (record_at records.entry.table.now number.0).entering (held_node (record_at records.entry.table.now number.0) edges.now)) start out.old out.new result }
 {
-    let at = number.0 * RECORD;
     let a = text::put_number(out, start, number.0);
-    let b = put_field(out, a, table[at]);
-    let c = put_field(out, b, table[at + LOWER]);
-    let d = put_field(out, c, table[at + UPPER]);
-    let e = put_field(out, d, table[at + ENTERING]);
+    let b = put_field(out, a, records.level(number));
+    let c = put_field(out, b, records.lower(number));
+    let d = put_field(out, c, records.upper(number));
+    let e = put_field(out, d, records.entering(number));
     let f = put_children(out, e, edges);
     text::put(out, f, b'\n')
 }
 
 // The place of a node's first edge; for the number behind the last node, the number of edges.
-fn first_edge(table: &[u32], count: usize, total: usize, k: NodeNumber) -> usize
-    requires k_le_count { k.0 ≤ count }
-    requires records_fit { RecordsFit count table.now }
-    ensures { (ns : List Node) (es : List ℕ) → Lying ns table.now count es total → result ≡ first_place ns k.0 }
+fn first_edge(records: Records<'_>, total: usize, k: NodeNumber) -> usize
+    requires { k.0 ≤ records.count }
+    ensures { (ns : List Node) (es : List ℕ) → Lying ns records.entry.table.now records.entry.count es total → result ≡ first_place ns k.0 }
 {
-    if k.0 < count {
-        table[k.0 * RECORD + FIRST] as usize
+    if k.0 < records.count {
+        records.first(k) as usize
     } else {
         total
     }
 }
 
-// The lines of all nodes in order; the place behind them.
+// The lines of all nodes in order; the place behind them. (What it asks, `Lying`, speaks of the words and the count, so they come as they are.)
 fn put_nodes(
     table: &[u32],
     count: usize,
@@ -87,14 +89,12 @@ fn put_nodes(
     requires { (ns : List Node) × Lying ns table.now count edges.now total }
     ensures { (ns : List Node) → Lying ns table.now count edges.now total → Wrote (node_lines ns 0 ns) start out.old out.new result }
 {
+    let records = Records { table, count };
     let mut at = start;
-    let mut node = 0;
-    'nodes: while node < count {
-        let next = node + 1;
-        let first = first_edge(table, count, total, NodeNumber(node));
-        let past = first_edge(table, count, total, NodeNumber(next));
-        at = put_node(out, at, NodeNumber(node), table, &edges[first..past]);
-        node = next;
+    'nodes: for node in 0..count {
+        let first = first_edge(records, total, NodeNumber(node));
+        let past = first_edge(records, total, NodeNumber(node + 1));
+        at = put_node(out, at, NodeNumber(node), records, &edges[first..past]);
     }
     at
 }

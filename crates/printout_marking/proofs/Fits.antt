@@ -11,8 +11,8 @@ use borrow.Author.Tests.{ltb-false, leb-true, leb-false}
 use Rattle.word.specs.Record.{Record, records}
 use Rattle.word.proofs.Flat.{records_length}
 use Rattle.refusal.specs.Table.{number_of, place_of, and_then}
-use Rattle.refusal.specs.declared.Checked.{Checked}
-use Rattle.refusal.specs.declared.Checked.TheVariants.{Passed, Refused}
+use Rattle.refusal.specs.Table.{Checked}
+use Rattle.std.specs.Prelude.{Ok, Err}
 use Rattle.text.specs.Decimal.{decimal}
 use Rattle.text.specs.Cut.{Wrote}
 use Rattle.text.proofs.Cuts.{wrote_as, printed, printed_inside, printed_count, printed_all}
@@ -29,9 +29,8 @@ use Rattle.printout_lines.specs.Text.{newline, refusal_line}
 use Rattle.printout.specs.Shown.{words_in}
 use Rattle.printout.proofs.Input.{words_in-length}
 use Rattle.printout.proofs.Fits.{eight, refusal_few}
-use Rattle.printout_marking.specs.declared.Answer.{Answer}
-use Rattle.printout_marking.specs.declared.Answer.TheVariants.{TooLong, BadLength, Marked}
-use Rattle.printout_marking.specs.Printed.{most_hand_in, most_hand_in_words, bad_record_number, record_word, record_line, answer_text, counted_answer, table_answer, words_answer, bytes_answer, mark_text, Marks}
+use Rattle.printout_marking.specs.declared.Fault.TheVariants.{TooLong, BadLength}
+use Rattle.printout_marking.specs.Printed.{Answer, marked_answer, most_hand_in, most_hand_in_words, bad_record_number, record_word, record_line, answer_text, counted_answer, table_answer, words_answer, bytes_answer, mark_text, Marks}
 use Rattle.printout_marking.proofs.Input.{AnswerFor}
 
 -- ---- Places
@@ -49,8 +48,8 @@ bad_within ls a xs es k b = go (leb (length xs) k) refl
     go false e = omega (arith, leb-false (length xs) k e)
 
 told_placed : (ls : List Level) (a : ℤ) (xs : List Record) (es : List ℕ) (n : ℕ) → length xs ≤ n → (c : Checked) → Tells ls a xs es c → Placed n c
-told_placed ls a xs es n h Passed t = tt
-told_placed ls a xs es n h (Refused x) t = omega (arith, ap place_of t.1, bad_within ls a xs es t.0 t.2)
+told_placed ls a xs es n h (Ok tt) t = tt
+told_placed ls a xs es n h (Err x) t = omega (arith, ap place_of t.1, bad_within ls a xs es t.0 t.2)
 
 marked_placed : (ws t es : List ℕ) (n : ℕ) → length ws ≤ n → length t ≤ n → Placed n (marked_reply ws t es)
 unfolding marked_reply
@@ -63,8 +62,8 @@ marked_placed ws t es n h k = go (checked main_limits ws) (placed_within main_li
     a = (stated ws).bound
 
     go : (c : Checked) → Placed (length ws) c → Placed n (and_then c (judged ls a (records t) es))
-    go Passed p = told_placed ls a (records t) es n (omega (arith, records_length t)) (judged ls a (records t) es) (judged_says ls a (records t) es)
-    go (Refused x) p = omega arith
+    go (Ok tt) p = told_placed ls a (records t) es n (omega (arith, records_length t)) (judged ls a (records t) es) (judged_says ls a (records t) es)
+    go (Err x) p = omega arith
 
 -- ---- Lines
 
@@ -78,9 +77,9 @@ Few x = length (answer_text x) ≤ longest_line
 record_few : (k : ℕ) → k < 100000000 → length (record_line k) ≤ 16
 record_few k h = omega (arith, length-append (record_word ++ decimal k) newline, length-append record_word (decimal k), eight k h)
 
-marked_few : (c : Checked) → Placed most_hand_in_words c → Few (Marked c)
-marked_few Passed p = omega arith
-marked_few (Refused x) p = go (eqb (number_of x) bad_record_number)
+marked_few : (c : Checked) → Placed most_hand_in_words c → Few (marked_answer c)
+marked_few (Ok tt) p = omega arith
+marked_few (Err x) p = go (eqb (number_of x) bad_record_number)
   where
     go : (t : Bool) → length (cond t (record_line (place_of x)) (refusal_line x)) ≤ longest_line
     go true = omega (arith, record_few (place_of x) (omega arith))
@@ -92,21 +91,21 @@ unfolding counted_answer
 counted_few answer [] f = omega arith
 counted_few answer (n ∷ xs) f = go (ltb (length xs) n)
   where
-    go : (t : Bool) → Few (cond t BadLength (answer (take n xs) (drop n xs)))
+    go : (t : Bool) → Few (cond t (Err BadLength) (answer (take n xs) (drop n xs)))
     go true = omega arith
     go false = f (take n xs) (drop n xs) (omega (arith, length-take n xs)) (omega (arith, length-drop n xs))
 
 words_few : (xs : List ℕ) → length xs ≤ most_hand_in_words → Few (words_answer xs)
 words_few xs h =
     counted_few table_answer xs
-    (λ ws rest i j. counted_few (λ t es. Marked (marked_reply ws t es)) rest (λ t es k l. marked_few (marked_reply ws t es) (marked_placed ws t es most_hand_in_words (omega arith) (omega arith))))
+    (λ ws rest i j. counted_few (λ t es. marked_answer (marked_reply ws t es)) rest (λ t es k l. marked_few (marked_reply ws t es) (marked_placed ws t es most_hand_in_words (omega arith) (omega arith))))
 
 -- THE BOUND
 pub mark_few : (bs : List ℕ) → length (mark_text bs) ≤ longest_line
 unfolding bytes_answer
 mark_few bs = go (ltb most_hand_in (length bs)) refl (eqb (length bs % 4) 0)
   where
-    go : (p : Bool) → ltb most_hand_in (length bs) ≡ p → (q : Bool) → Few (cond p TooLong (cond q (words_answer (words_in bs)) BadLength))
+    go : (p : Bool) → ltb most_hand_in (length bs) ≡ p → (q : Bool) → Few (cond p (Err TooLong) (cond q (words_answer (words_in bs)) (Err BadLength)))
     go true e q = omega arith
     go false e true = let l = ltb-false most_hand_in (length bs) e in words_few (words_in bs) (omega (arith, words_in-length bs))
     go false e false = omega arith

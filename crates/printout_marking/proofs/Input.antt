@@ -13,20 +13,20 @@ use Rattle.text.specs.Cut.{Printed}
 use Rattle.text.proofs.Cuts.{printed_front}
 use Rattle.printout.specs.Shown.{words_in}
 use Rattle.printout.proofs.Input.{words_in-length}
-use Rattle.printout_marking.specs.declared.Answer.{Answer}
-use Rattle.printout_marking.specs.declared.Answer.TheVariants.{TooLong, BadLength}
-use Rattle.printout_marking.specs.Printed.{most_hand_in, most_hand_in_words, words_answer, bytes_answer, words_after}
+use Rattle.std.proofs.Common.{Err}
+use Rattle.printout_marking.specs.declared.Fault.TheVariants.{TooLong, BadLength}
+use Rattle.printout_marking.specs.Printed.{Answer, most_hand_in, most_hand_in_words, words_answer, bytes_answer, words_after}
 
 -- an answer is the one for bytes, and a list holds what the lent words hold afterwards
 abbrev pub AnswerFor : List ℕ → List ℕ → List ℕ → Answer → Type 0
 AnswerFor bs ws ws' x = (x ≡ bytes_answer bs) × (ws' ≡ words_after bs ws)
 
 module _ (bs ws : List ℕ) where
-  pub answer_long : most_hand_in < length bs → AnswerFor bs ws ws TooLong
+  pub answer_long : most_hand_in < length bs → AnswerFor bs ws ws (Err TooLong)
   unfolding bytes_answer words_after
   answer_long h = rw (lt-ltb most_hand_in (length bs) h) (refl, refl)
 
-  pub answer_bad : length bs ≤ most_hand_in → length bs % 4 ≢ 0 → AnswerFor bs ws ws BadLength
+  pub answer_bad : length bs ≤ most_hand_in → length bs % 4 ≢ 0 → AnswerFor bs ws ws (Err BadLength)
   unfolding bytes_answer words_after
   answer_bad h k = rw (le-ltb most_hand_in (length bs) h, ne_eqb (length bs % 4) 0 k) (refl, refl)
 
@@ -38,7 +38,7 @@ module _ (bs ws : List ℕ) where
       let q : take k ws' ≡ words_in bs = printed_front p ∙ take_all (length ws) (words_in bs) (omega (arith, words_in-length bs)) in
       rw (le-ltb most_hand_in (length bs) h, eq-eqb (length bs % 4) 0 m) (v ∙ ap words_answer q, p.list)
 
-says_long : (bs : List ℕ) → most_hand_in < length bs → bytes_answer bs ≡ TooLong
+says_long : (bs : List ℕ) → most_hand_in < length bs → bytes_answer bs ≡ Err TooLong
 says_long bs h = sym (answer_long bs bs h).0
 
 -- one byte more than the most tells as much as all: the answer is the same, whatever follows

@@ -1,12 +1,13 @@
 // The printed line of a marking, from the bytes of a constraint and a hand-in.
 #![tactic(auto)]
 
-ghost use Rattle.std.specs.Prelude.{◌≡◌, ◌≤◌, length, take};
+ghost use Rattle.std.specs.Prelude.{◌≡◌, ◌≤◌, length, take, MatchResult};
 ghost use Rattle.text.specs.Cut.{Wrote};
-ghost use Rattle.printout_marking.specs.Printed.{most_hand_in_words, wrong_line, marked_line, answer_text, table_answer, words_answer, bytes_answer, words_after, Marks};
-ghost use Rattle.printout_marking.specs.Parts.{PartOf};
+ghost use Rattle.printout_marking.specs.Printed.{most_hand_in_words, wrong_line, answer_text, words_answer, bytes_answer, words_after, Marks};
+ghost use Rattle.printout_marking.specs.Parts.{PartOf, NoPart};
+ghost use Rattle.printout_marking.specs.declared.Fault.TheVariants.{Refused};
 
-use refusal::{Checked, Refusal};
+use refusal::Refusal;
 
 // The bytes of a hand-in at most.
 const BYTES: usize = 65536;
@@ -23,67 +24,57 @@ pub const TEXT: usize = 64;
 // The number of the refusal that names a bad record.
 const BAD_RECORD: u32 = 20;
 
-// The answer to the bytes of a hand-in: they are too many, their number is wrong, or the marker's reply.
-#[derive(Drop)]
-pub enum Answer {
+// Why a hand-in is not right: its bytes are too many, their number is wrong, or the marker refuses it.
+#[derive(Clone, Copy)]
+pub enum Fault {
     TooLong,
     BadLength,
-    Marked(Checked),
+    Refused(Refusal),
 }
 
-// The words that the first word of a list counts, behind it: they end before a place, or there are fewer than counted.
-#[derive(Drop)]
-enum Part {
-    Before(usize),
-    Short,
+impl From<Refusal> for Fault {
+    ghost from_gives = { λ x fault. fault ≡ Refused x };
+
+    fn from(x: Refusal) -> Fault {
+        Fault::Refused(x)
+    }
 }
 
-// The part of a list of words that its first word counts; where there is no first word, it is short.
-fn part_of(words: &[u32]) -> Part
-    ensures { PartOf words.now result }
+// The words that the first word of a list counts, and those that follow; the length is bad where there is no first word, or where it counts more than there are.
+fn part_of(words: &[u32]) -> Result<(&[u32], &[u32]), Fault>
+    ensures { MatchResult result (λ p. PartOf words.now p.0.now p.1.now) (λ e. NoPart words.now e) }
 {
-    let all = words.len();
-    if all == 0 {
-        return Part::Short;
+    let [n, rest @ ..] = words else {
+        return Err(Fault::BadLength);
+    };
+    let n = *n as usize;
+    if rest.len() < n {
+        return Err(Fault::BadLength);
     }
-    let n = words[0] as usize;
-    if all <= n {
-        return Part::Short;
-    }
-    Part::Before(n + 1)
+    Ok(rest.split_at(n))
 }
 
-// The answer for the words of a constraint and what follows them: a counted table, and the edges.
-fn mark_table(words: &[u32], rest: &[u32]) -> Answer
-    ensures { result ≡ table_answer words.now rest.now }
-{
-    match part_of(rest) {
-        Part::Short => Answer::BadLength,
-        Part::Before(past) => Answer::Marked(marker::mark(words, &rest[1..past], &rest[past..])),
-    }
-}
-
-// The answer for all words: a counted constraint, and what follows it.
-fn mark_words(words: &[u32]) -> Answer
+// The answer for all words: a counted constraint, a counted table, and the edges.
+fn mark_words(words: &[u32]) -> Result<(), Fault>
     ensures { result ≡ words_answer words.now }
 {
-    match part_of(words) {
-        Part::Short => Answer::BadLength,
-        Part::Before(past) => mark_table(&words[1..past], &words[past..]),
-    }
+    let (constraint, rest) = part_of(words)?;
+    let (table, edges) = part_of(rest)?;
+    marker::mark(constraint, table, edges)?;
+    Ok(())
 }
 
 // The answer for the bytes of a hand-in; their words are put into the lent list.
-fn mark_bytes(input: &[u8], words: &mut [u32]) -> Answer
+fn mark_bytes(input: &[u8], words: &mut [u32]) -> Result<(), Fault>
     requires { most_hand_in_words ≤ length words.old }
     ensures value { result ≡ bytes_answer input.now }
     ensures words_after { words.new ≡ words_after input.now words.old }
 {
     if BYTES < input.len() {
-        return Answer::TooLong;
+        return Err(Fault::TooLong);
     }
     if input.len() % 4 != 0 {
-        return Answer::BadLength;
+        return Err(Fault::BadLength);
     }
     let n = printout::words_of(input, words);
     mark_words(&words[..n])
@@ -101,24 +92,15 @@ fn put_wrong(x: Refusal, out: &mut [u8]) -> usize
     printout_lines::put_refusal(x, out)
 }
 
-// The line for the marker's reply, at the start of the buffer; the place behind it.
-fn put_marked(reply: Checked, out: &mut [u8]) -> usize
-    ensures { Wrote (marked_line reply) 0 out.old out.new result }
-{
-    match reply {
-        Checked::Passed => text::put_all(out, 0, b"right\n"),
-        Checked::Refused(x) => put_wrong(x, out),
-    }
-}
-
 // The line for an answer, at the start of the buffer; the place behind it.
-fn put_answer(answer: Answer, out: &mut [u8]) -> usize
+fn put_answer(answer: Result<(), Fault>, out: &mut [u8]) -> usize
     ensures { Wrote (answer_text answer) 0 out.old out.new result }
 {
     match answer {
-        Answer::TooLong => text::put_all(out, 0, b"too long\n"),
-        Answer::BadLength => text::put_all(out, 0, b"bad length\n"),
-        Answer::Marked(reply) => put_marked(reply, out),
+        Ok(()) => text::put_all(out, 0, b"right\n"),
+        Err(Fault::TooLong) => text::put_all(out, 0, b"too long\n"),
+        Err(Fault::BadLength) => text::put_all(out, 0, b"bad length\n"),
+        Err(Fault::Refused(x)) => put_wrong(x, out),
     }
 }
 

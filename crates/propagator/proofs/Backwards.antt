@@ -4,13 +4,18 @@ use mathlib.Core.Path.{◌≡◌, sym, subst}
 use mathlib.Core.Logic.{⊎_elim, inl, inr}
 use mathlib.Core.List.{List, ◌∷◌}
 use Prim.Native.Nat.{ℕ, suc, ◌-◌, ◌≤◌, ◌<◌}
+use native.Mathlib.Omega.{arith}
 use lib.ListN.{length, get_or}
+use Rattle.std.specs.Prelude.{Ok}
 use Rattle.word.specs.Word.{payload}
-use Rattle.clause.specs.Meaning.{Clause, clauses_of}
-use Rattle.propagation.specs.Derived.{HasClause}
-use Rattle.propagator.specs.Pass.{Split, Between, Propagable, StableBefore, StableBehind, pass_of, AfterPass}
+use Rattle.clause.specs.Meaning.{Clause, literal_of, clauses_of}
+use Rattle.propagation.specs.Derived.{HasClause, Derived, Conflicting}
+use Rattle.propagation.specs.Propagated.{put_literal}
+use Rattle.propagator.specs.declared.Ask.{Ask}
+use Rattle.propagator.specs.declared.Ask.TheVariants.{Nothing, Literal, AllFalse}
+use Rattle.propagator.specs.Pass.{ListPasses, Asks, Split, Between, Propagable, StableBefore, StableBehind, changed_at, AfterPass}
 use Rattle.propagator.proofs.Places.{within, either_side, at_start, in_list, status_here, ClauseBefore, one_before, has_last}
-use Rattle.propagator.proofs.PassSoFar.{Direction, PassSoFar, PassTurn, pass_start, pass_done}
+use Rattle.propagator.proofs.PassSoFar.{Direction, PassSoFar, PassTurn, pass_start, pass_falsified, pass_neither, pass_unit, pass_done}
 
 abbrev pub Back : List ℕ → Direction
 Back ws at passed ahead = Split ws at ahead passed
@@ -26,14 +31,14 @@ module _ (ws before : List ℕ) (ready : Propagable ws before) (began : ℕ) whe
     pub backwards_within : at ≤ length ws
     backwards_within = within ws (length before) ready.0 at g.ahead g.passed g.here
 
-    pub backwards_done : at ≡ 0 → AfterPass (StableBefore ws b) (clauses_of ws) before b (pass_of began last)
+    pub backwards_done : at ≡ 0 → AfterPass (StableBefore ws b) (clauses_of ws) before b (Ok (changed_at began last))
     backwards_done h =
         pass_done (Back ws) ws before ready began last at b g (at_start ws (length before) ready.0 at g.ahead g.passed g.here h)
         (StableBefore ws b) (λ post pre s q. record { pre = pre; post = post; split = s; stable = q })
         (λ c m. ⊎_elim inr inl (either_side ws (length before) ready.0 last g.ahead_then g.passed_then g.there c m))
 
     -- the clause before the place
-    module _ (h : 0 < at) where
+    module _ (i : at ≤ began) (h : 0 < at) where
       found : ClauseBefore ws (length before) ready.0 at g.ahead g.passed
       found = one_before ws (length before) ready.0 at g.ahead g.passed g.here h
 
@@ -45,10 +50,15 @@ module _ (ws before : List ℕ) (ready : Propagable ws before) (began : ℕ) whe
         here : Split ws next found.more (found.clause ∷ g.passed)
         here = subst (λ (x : ℕ). Split ws x found.more (found.clause ∷ g.passed)) (sym e) found.begins
 
-        pub backwards_between : Between ws next
-        backwards_between = (found.more, found.clause ∷ g.passed, here)
+        -- what a look there asks for
+        pub backwards_look : ListPasses (length b) ws × Between ws next × (next < length ws)
+        backwards_look = (
+          subst (λ (n : ℕ). ListPasses n ws) (sym g.extension.long) ready.0,
+          (found.more, found.clause ∷ g.passed, here),
+          omega (arith, e, h, backwards_within),
+        )
 
-        pub backwards_turn : PassTurn (Back ws) ws g.ahead next next
+        backwards_turn : PassTurn (Back ws) ws g.ahead next next
         backwards_turn =
             record {
               clause = found.clause;
@@ -59,3 +69,17 @@ module _ (ws before : List ℕ) (ready : Propagable ws before) (began : ℕ) whe
               here = here;
               one_fewer = λ x m. has_last found.more found.clause x (subst (λ (l : List Clause). HasClause l x) found.last m);
             }
+
+        -- by what it asks for
+        module _ (asked : Ask) (asks : Asks b ws next asked) where
+          pub backwards_falsified : asked ≡ AllFalse → Conflicting (clauses_of ws) (Derived (clauses_of ws) before)
+          backwards_falsified q = pass_falsified (Back ws) ws before ready began last at b g next next backwards_turn asked asks q
+
+          pub backwards_neither : asked ≡ Nothing → (next ≤ began) × Backwards ws before b began last next
+          backwards_neither q = (omega (arith, e, h, i), pass_neither (Back ws) ws before ready began last at b g next next backwards_turn asked asks q)
+
+          pub backwards_unit : (w : ℕ) → asked ≡ Literal w → (a : List ℕ) → a ≡ put_literal b (literal_of w) → (next ≤ began) × Backwards ws before a began next next
+          backwards_unit w q a p = (
+            omega (arith, e, h, i),
+            pass_unit (Back ws) ws before ready began last at b g next next backwards_turn asked asks w q a (λ z. omega (arith, z, e, h, i)) p,
+          )

@@ -1,14 +1,12 @@
--- THE CHECKS of the call, by what each finds, and what input that passes them has. Assumes nothing.
+-- THE CHECKS of the call: what input that passes them has. Assumes nothing.
 use mathlib.Core.Path.{◌≡◌, refl}
 use mathlib.Core.List.{List, [], ◌∷◌}
 use Prim.Native.Nat.{ℕ, suc}
 use lib.Dec.{eqb, leb}
 use lib.ListN.{length}
-use borrow.Author.Tests.{eq-eqb, ne_eqb, eqb-true, le-leb, leb-true}
-use Rattle.refusal.specs.Table.{and_then, unless}
-use Rattle.refusal.specs.declared.Refusal.{Refusal}
+use borrow.Author.Tests.{eq-eqb, eqb-true, le-leb, leb-true}
+use Rattle.refusal.specs.Table.{and_then, unless, passed}
 use Rattle.refusal.specs.declared.Refusal.TheVariants.{ValueByte, BufferLength}
-use Rattle.refusal.specs.declared.Checked.TheVariants.{Passed, Refused}
 use Rattle.refusal.proofs.Passes.{both_passed, unless_passed}
 use Rattle.clause.specs.Check.{list_from}
 use Rattle.tester.specs.Tested.{values_from}
@@ -16,26 +14,7 @@ use Rattle.propagation.specs.Derived.{Bytes}
 use Rattle.propagator.specs.Reply.{input_checked}
 use Rattle.propagator.specs.Pass.{Propagable}
 
-module _ (bs ws : List ℕ) (room : ℕ) where
-  pub bytes_refuse : (x : Refusal) → values_from 2 0 bs ≡ Refused x → Refused x ≡ input_checked bs ws room
-  unfolding input_checked
-  bytes_refuse x p = rw p
-
-  module _ (good : values_from 2 0 bs ≡ Passed) where
-    pub list_refused : (x : Refusal) → list_from (length bs) 0 0 ws ≡ Refused x → Refused x ≡ input_checked bs ws room
-    unfolding input_checked
-    list_refused x q = rw (good, q)
-
-    module _ (listed : list_from (length bs) 0 0 ws ≡ Passed) where
-      pub length_refused : ¬ (room ≡ length bs) → Refused BufferLength ≡ input_checked bs ws room
-      unfolding input_checked
-      length_refused n = rw (good, listed, ne_eqb room (length bs) n)
-
-      pub all_pass : room ≡ length bs → Passed ≡ input_checked bs ws room
-      unfolding input_checked
-      all_pass e = rw (good, listed, eq-eqb room (length bs) e)
-
-values_bytes : (at : ℕ) (bs : List ℕ) → values_from 2 at bs ≡ Passed → Bytes bs
+values_bytes : (at : ℕ) (bs : List ℕ) → values_from 2 at bs ≡ passed → Bytes bs
 unfolding values_from
 values_bytes at [] e = tt
 values_bytes at (b ∷ bs) e =
@@ -43,7 +22,7 @@ values_bytes at (b ∷ bs) e =
     (leb-true b 2 (unless_passed (leb b 2) (ValueByte at) t.0), values_bytes (suc at) bs t.1)
 
 -- INPUT THAT PASSES: bytes of 0 to 2, a list over them, and a buffer of their length
-pub passed_is : (bs ws : List ℕ) (room : ℕ) → input_checked bs ws room ≡ Passed → Propagable ws bs × (room ≡ length bs)
+pub passed_is : (bs ws : List ℕ) (room : ℕ) → input_checked bs ws room ≡ passed → Propagable ws bs × (room ≡ length bs)
 unfolding input_checked
 passed_is bs ws room e =
     let t = both_passed (values_from 2 0 bs) (and_then (list_from (length bs) 0 0 ws) (unless (eqb room (length bs)) BufferLength)) e in
@@ -51,11 +30,11 @@ passed_is bs ws room e =
     ((u.0, values_bytes 0 bs t.0), eqb-true room (length bs) (unless_passed (eqb room (length bs)) BufferLength u.1))
 
 -- and the other way
-values_pass : (at : ℕ) (bs : List ℕ) → Bytes bs → values_from 2 at bs ≡ Passed
+values_pass : (at : ℕ) (bs : List ℕ) → Bytes bs → values_from 2 at bs ≡ passed
 unfolding values_from
 values_pass at [] h = refl
 values_pass at (b ∷ bs) h = rw (le-leb b 2 h.0) (values_pass (suc at) bs h.1)
 
-pub call_passes : (bs ws : List ℕ) (room : ℕ) → Bytes bs → list_from (length bs) 0 0 ws ≡ Passed → room ≡ length bs → input_checked bs ws room ≡ Passed
+pub call_passes : (bs ws : List ℕ) (room : ℕ) → Bytes bs → list_from (length bs) 0 0 ws ≡ passed → room ≡ length bs → input_checked bs ws room ≡ passed
 unfolding input_checked
 call_passes bs ws room h e f = rw (values_pass 0 bs h, e, eq-eqb room (length bs) f)

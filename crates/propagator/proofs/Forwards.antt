@@ -4,12 +4,16 @@ use mathlib.Core.List.{List, [], ◌∷◌, ◌++◌}
 use Prim.Native.Nat.{ℕ, ◌≤◌, ◌<◌}
 use native.Mathlib.Omega.{arith}
 use lib.ListN.{length, drop}
-use Rattle.clause.specs.Meaning.{Clause, clauses_of}
+use Rattle.std.specs.Prelude.{Ok}
+use Rattle.clause.specs.Meaning.{Clause, literal_of, clauses_of}
 use Rattle.tester.specs.Past.{past_end}
-use Rattle.propagation.specs.Derived.{HasClause}
-use Rattle.propagator.specs.Pass.{Split, Between, Propagable, StableBefore, StableBehind, pass_of, AfterPass}
+use Rattle.propagation.specs.Derived.{HasClause, Derived, Conflicting}
+use Rattle.propagation.specs.Propagated.{put_literal}
+use Rattle.propagator.specs.declared.Ask.{Ask}
+use Rattle.propagator.specs.declared.Ask.TheVariants.{Nothing, Literal, AllFalse}
+use Rattle.propagator.specs.Pass.{Asks, Split, Between, Propagable, StableBefore, StableBehind, changed_at, AfterPass}
 use Rattle.propagator.proofs.Places.{either_side, one_behind, at_end, in_list, status_here, split_next, past_end_within}
-use Rattle.propagator.proofs.PassSoFar.{PassSoFar, PassTurn, pass_start, pass_done}
+use Rattle.propagator.proofs.PassSoFar.{PassSoFar, PassTurn, pass_start, pass_falsified, pass_neither, pass_unit, pass_done}
 
 abbrev pub Forwards : (ws before b : List ℕ) (began last at : ℕ) → Type 0
 Forwards ws before b began last at = PassSoFar (Split ws) (clauses_of ws) before b began last at
@@ -22,14 +26,14 @@ module _ (ws before : List ℕ) (ready : Propagable ws before) (began : ℕ) whe
     pub forwards_between : Between ws at
     forwards_between = (g.passed, g.ahead, g.here)
 
-    pub forwards_done : length ws ≤ at → AfterPass (StableBehind ws b) (clauses_of ws) before b (pass_of began last)
+    pub forwards_done : length ws ≤ at → AfterPass (StableBehind ws b) (clauses_of ws) before b (Ok (changed_at began last))
     forwards_done h =
         pass_done (Split ws) ws before ready began last at b g (at_end ws (length before) ready.0 at g.passed g.ahead g.here h)
         (StableBehind ws b) (λ pre post s q. record { pre = pre; post = post; split = s; stable = q })
         (either_side ws (length before) ready.0 last g.passed_then g.ahead_then g.there)
 
     -- the clause behind the place
-    module _ (h : at < length ws) (next : ℕ) (e : next ≡ past_end at (drop at ws)) where
+    module _ (i : began ≤ at) (h : at < length ws) (next : ℕ) (e : next ≡ past_end at (drop at ws)) where
       record Found : Type 0 where
         clause : Clause
         more : List Clause
@@ -46,7 +50,7 @@ module _ (ws before : List ℕ) (ready : Propagable ws before) (began : ℕ) whe
           let p = past_end_within ws (length before) ready.0 at g.passed found.clause found.more found.here in
           (omega (arith, e, p.0), omega (arith, e, p.1))
 
-      pub forwards_turn : PassTurn (Split ws) ws g.ahead at next
+      forwards_turn : PassTurn (Split ws) ws g.ahead at next
       forwards_turn =
           record {
             clause = found.clause;
@@ -59,3 +63,17 @@ module _ (ws before : List ℕ) (ready : Propagable ws before) (began : ℕ) whe
                 (split_next ws (length before) ready.0 at g.passed found.clause found.more found.here);
             one_fewer = λ x m. subst (λ (l : List Clause). HasClause l x) found.is m;
           }
+
+      -- by what it asks for
+      module _ (found : Ask) (asks : Asks b ws at found) where
+        pub forwards_falsified : found ≡ AllFalse → Conflicting (clauses_of ws) (Derived (clauses_of ws) before)
+        forwards_falsified e = pass_falsified (Split ws) ws before ready began last at b g at next forwards_turn found asks e
+
+        pub forwards_neither : found ≡ Nothing → (began ≤ next) × Forwards ws before b began last next
+        forwards_neither q = (omega (arith, i, forwards_less.0), pass_neither (Split ws) ws before ready began last at b g at next forwards_turn found asks q)
+
+        pub forwards_unit : (w : ℕ) → found ≡ Literal w → (a : List ℕ) → a ≡ put_literal b (literal_of w) → (began ≤ next) × Forwards ws before a began next next
+        forwards_unit w q a p = (
+          omega (arith, i, forwards_less.0),
+          pass_unit (Split ws) ws before ready began last at b g at next forwards_turn found asks w q a (λ z. omega (arith, z, i, forwards_less.0)) p,
+        )

@@ -3,11 +3,10 @@
 use mathlib.Core.Path.{◌≡◌, refl, sym, ap, subst, ◌∙◌}
 use mathlib.Core.Logic.{inl, inr}
 use mathlib.Core.List.{List, [], ◌∷◌, ◌++◌}
-use mathlib.Core.Bool.{Bool, true, false}
-use Prim.Native.Nat.{ℕ, ◌+◌, ◌≤◌, ◌<◌, min}
+use Prim.Native.Nat.{ℕ, ◌+◌, ◌-◌, ◌≤◌, ◌<◌, min}
 use native.Mathlib.Omega.{arith}
-use lib.ListN.{length, get_or, take}
-use lib.Seq.{length-take-le}
+use lib.ListN.{length, get_or, take, drop, length-take, length-drop}
+use lib.Seq.{length-take-le, get_or-drop, take_all, drop-drop}
 use Rattle.word.specs.Word.{last_boolean, end_word}
 use Rattle.clause.specs.Meaning.{Literal, Clause, clauses_of, words_of}
 use Rattle.clause.proofs.Written.{LiteralsFit, Fit, read_written}
@@ -16,7 +15,7 @@ use Rattle.propagation.specs.Derived.{HasLiteral, HasClause, KnownIn}
 use Rattle.propagation.specs.Propagated.{conflict, reached, propagated}
 use Rattle.propagation.proofs.Laws.{reached_long, reached_legal}
 use Rattle.propagation.proofs.Parts.{part_conflict, part_first}
-use Rattle.propagator.specs.Pass.{ListPasses, Propagable, Split, Between, outcome_of}
+use Rattle.propagator.specs.Pass.{ListPasses, Propagable, Split, Between}
 use Rattle.propagator.proofs.Places.{words_before, within, fits_before, one_behind, split_start, split_next, has_before, listed_known}
 use Rattle.propagator.proofs.EndWords.{ended_past}
 
@@ -36,6 +35,28 @@ between_next ws (n, listed) at (pre, post, s) h e =
       t.1,
       subst (λ (x : ℕ). Split ws x (pre ++ (t.0 ∷ [])) t.1) (sym next) (split_next ws n listed at pre t.0 t.1 (subst (Split ws at pre) t.2 s)),
     )
+
+-- WHAT IS LEFT of a list from a place between two clauses
+pub record Rest (ws rest : List ℕ) : Type 0 where
+  pub shorter : length rest ≤ length ws
+  pub left : rest ≡ drop (length ws - length rest) ws
+  pub between : Between ws (length ws - length rest)
+
+pub rest_next : (ws : List ℕ) → (n : ℕ) × ListPasses n ws → (rest : List ℕ) → Rest ws rest → 3 ≤ length rest → get_or rest 2 0 ≡ end_word 2
+    → Rest ws (take (length rest - 3) (drop 3 rest))
+rest_next ws p rest r h e =
+    let k : ℕ = length ws - length rest in
+    let to : length ws - length (take (length rest - 3) (drop 3 rest)) ≡ k + 3 = omega (arith, length-take (length rest - 3) (drop 3 rest), length-drop 3 rest, r.shorter) in
+    let here : get_or ws (k + 2) 0 ≡ end_word 2 = sym (get_or-drop k ws 2 0) ∙ ap (λ (x : List ℕ). get_or x 2 0) (sym r.left) ∙ e in
+    record {
+      shorter = omega (arith, length-take (length rest - 3) (drop 3 rest), length-drop 3 rest, r.shorter);
+      left =
+          take_all (length rest - 3) (drop 3 rest) (omega (arith, length-drop 3 rest))
+          ∙ ap (drop {A = ℕ} 3) r.left
+          ∙ drop-drop 3 k ws
+          ∙ ap (λ (x : ℕ). drop x ws) (sym to);
+      between = subst (Between ws) (sym to) (between_next ws p k r.between (omega (arith, r.shorter)) here);
+    }
 
 -- ---- The part of the list
 
@@ -82,24 +103,19 @@ module _ (ws bs : List ℕ) (ready : Propagable ws bs) (at : ℕ) (b : Between w
   known = listed_known (length bs) ws ready.0
 
   -- the passes over the front came to this
-  module _ (found : Bool) (after : List ℕ) (ran : outcome_of found after ≡ propagated (clauses_of (take at ws)) bs) where
-    pub front_conflict : found ≡ true → conflict ≡ propagated (clauses_of ws) bs
-    front_conflict e =
-        sym (part_conflict (clauses_of (take at ws)) (clauses_of ws) (front_part ws (length bs) ready.0 at b) bs known ready.1
-        (sym ran ∙ ap (λ (x : Bool). outcome_of x after) e))
+  pub front_conflict : conflict ≡ propagated (clauses_of (take at ws)) bs → conflict ≡ propagated (clauses_of ws) bs
+  front_conflict ran =
+      sym (part_conflict (clauses_of (take at ws)) (clauses_of ws) (front_part ws (length bs) ready.0 at b) bs known ready.1 (sym ran))
 
-    module _ (e : found ≡ false) where
-      reached_there : propagated (clauses_of (take at ws)) bs ≡ reached after
-      reached_there = sym ran ∙ ap (λ (x : Bool). outcome_of x after) e
+  module _ (after : List ℕ) (ran : reached after ≡ propagated (clauses_of (take at ws)) bs) where
+    known_front : KnownIn (length bs) (clauses_of (take at ws))
+    known_front c m = known c (front_part ws (length bs) ready.0 at b c m)
 
-      known_front : KnownIn (length bs) (clauses_of (take at ws))
-      known_front c m = known c (front_part ws (length bs) ready.0 at b c m)
+    pub front_ready_on : Propagable ws after
+    front_ready_on = (
+      subst (λ (n : ℕ). ListPasses n ws) (sym (reached_long (clauses_of (take at ws)) bs known_front ready.1 after (sym ran))) ready.0,
+      reached_legal (clauses_of (take at ws)) bs known_front ready.1 after (sym ran),
+    )
 
-      pub front_ready_on : Propagable ws after
-      front_ready_on = (
-        subst (λ (n : ℕ). ListPasses n ws) (sym (reached_long (clauses_of (take at ws)) bs known_front ready.1 after reached_there)) ready.0,
-        reached_legal (clauses_of (take at ws)) bs known_front ready.1 after reached_there,
-      )
-
-      pub front_first : propagated (clauses_of ws) after ≡ propagated (clauses_of ws) bs
-      front_first = part_first (clauses_of (take at ws)) (clauses_of ws) (front_part ws (length bs) ready.0 at b) bs known ready.1 after reached_there
+    pub front_first : propagated (clauses_of ws) after ≡ propagated (clauses_of ws) bs
+    front_first = part_first (clauses_of (take at ws)) (clauses_of ws) (front_part ws (length bs) ready.0 at b) bs known ready.1 after (sym ran)

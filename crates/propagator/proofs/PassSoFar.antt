@@ -14,8 +14,10 @@ use Rattle.propagation.specs.Derived.{HasClause, Derived, Conflicting, KnownIn}
 use Rattle.propagation.specs.Propagated.{neither, falsified, status, put_literal}
 use Rattle.propagation.specs.Extension.{SoundExtension, Stable, open_count}
 use Rattle.propagation.proofs.Steps.{extension_start, falsified_conflict, unit_extends}
-use Rattle.propagator.specs.Pass.{looked, Asks, Propagable, pass_of, AfterPass}
-use Rattle.propagator.specs.declared.Pass.TheVariants.{Unchanged, Changed}
+use Rattle.propagator.specs.declared.Ask.{Ask}
+use Rattle.propagator.specs.declared.Ask.TheVariants.{Nothing, Literal, AllFalse}
+use Rattle.propagator.specs.Pass.{looked, Asks, Propagable, changed_at, AfterPass}
+use Rattle.std.specs.Prelude.{None, Some, Ok}
 use Rattle.propagator.proofs.Looks.{asks_neither, asks_falsified, asks_unit}
 use Rattle.propagator.proofs.Places.{listed_known}
 
@@ -67,12 +69,12 @@ module _ (Place : Direction) (ws before : List ℕ) (ready : Propagable ws befor
 
   module _ (last at : ℕ) (b : List ℕ) (g : PassSoFar Place (clauses_of ws) before b began last at) where
     -- the clause asks for `found`
-    module _ (begins next : ℕ) (t : PassTurn Place ws g.ahead begins next) (found : ℕ) (asks : Asks b ws begins found) where
-      pub pass_falsified : found ≡ 0 → Conflicting (clauses_of ws) (Derived (clauses_of ws) before)
+    module _ (begins next : ℕ) (t : PassTurn Place ws g.ahead begins next) (found : Ask) (asks : Asks b ws begins found) where
+      pub pass_falsified : found ≡ AllFalse → Conflicting (clauses_of ws) (Derived (clauses_of ws) before)
       pass_falsified e =
           falsified_conflict (clauses_of ws) before b known g.extension t.clause t.in_list (sym (t.reads b) ∙ asks_falsified b ws begins found asks e)
 
-      pub pass_neither : found ≡ 0xC0000000 → PassSoFar Place (clauses_of ws) before b began last next
+      pub pass_neither : found ≡ Nothing → PassSoFar Place (clauses_of ws) before b began last next
       pass_neither e =
           record {
             extension = g.extension;
@@ -90,9 +92,9 @@ module _ (Place : Direction) (ws before : List ℕ) (ready : Propagable ws befor
           none : status b t.clause ≡ neither
           none = sym (t.reads b) ∙ asks_neither b ws begins found asks e
 
-      pub pass_unit : (a : List ℕ) → ¬ (found ≡ 0) → ¬ (found ≡ 0xC0000000) → ¬ (next ≡ began) → a ≡ put_literal b (literal_of found)
+      pub pass_unit : (w : ℕ) → found ≡ Literal w → (a : List ℕ) → ¬ (next ≡ began) → a ≡ put_literal b (literal_of w)
           → PassSoFar Place (clauses_of ws) before a began next next
-      pass_unit a d e n put =
+      pass_unit w e a n put =
           subst (λ (x : List ℕ). PassSoFar Place (clauses_of ws) before x began next next) (sym put)
           (record {
             extension = extends.0;
@@ -107,12 +109,12 @@ module _ (Place : Direction) (ws before : List ℕ) (ready : Propagable ws befor
             fewer = λ q. down (eqb last began) refl extends.1;
           })
         where
-          extends : SoundExtension (clauses_of ws) before (put_literal b (literal_of found)) × (open_count (put_literal b (literal_of found)) < open_count b)
+          extends : SoundExtension (clauses_of ws) before (put_literal b (literal_of w)) × (open_count (put_literal b (literal_of w)) < open_count b)
           extends =
-              unit_extends (clauses_of ws) before b known g.extension t.clause t.in_list (literal_of found)
-              (sym (t.reads b) ∙ asks_unit b ws begins found asks d e)
+              unit_extends (clauses_of ws) before b known g.extension t.clause t.in_list (literal_of w)
+              (sym (t.reads b) ∙ asks_unit b ws begins found asks w e)
 
-          down : (x : Bool) → eqb last began ≡ x → open_count (put_literal b (literal_of found)) < open_count b → open_count (put_literal b (literal_of found)) < open_count before
+          down : (x : Bool) → eqb last began ≡ x → open_count (put_literal b (literal_of w)) < open_count b → open_count (put_literal b (literal_of w)) < open_count before
           down true u h = omega (arith, ap open_count (g.same (eqb-true last began u)).0)
           down false u h = omega (arith, g.fewer (eqb-false last began u))
 
@@ -123,15 +125,15 @@ module _ (Place : Direction) (ws before : List ℕ) (ready : Propagable ws befor
 
       pub pass_done : (Rest : ℕ → Type 0) → ((passed ahead : List Clause) → Place last passed ahead → Stable b ahead → Rest last)
           → ((c : Clause) → HasClause (clauses_of ws) c → HasClause g.passed_then c ⊎ HasClause g.ahead_then c)
-          → AfterPass Rest (clauses_of ws) before b (pass_of began last)
+          → AfterPass Rest (clauses_of ws) before b (Ok (changed_at began last))
       pass_done Rest rest parts = go (eqb last began) refl
         where
-          unchanged : last ≡ began → AfterPass Rest (clauses_of ws) before b Unchanged
+          unchanged : last ≡ began → AfterPass Rest (clauses_of ws) before b (Ok None)
           unchanged e = let s = g.same e in (s.0, λ c m. ap (λ (x : List ℕ). status x c) (sym s.0) ∙ ⊎_elim (s.1 c) (still c) (parts c m))
 
-          changed : ¬ (last ≡ began) → AfterPass Rest (clauses_of ws) before b (Changed last)
+          changed : ¬ (last ≡ began) → AfterPass Rest (clauses_of ws) before b (Ok (Some last))
           changed e = (g.extension, g.fewer e, rest g.passed_then g.ahead_then g.there still)
 
-          go : (x : Bool) → eqb last began ≡ x → AfterPass Rest (clauses_of ws) before b (pass_of began last)
+          go : (x : Bool) → eqb last began ≡ x → AfterPass Rest (clauses_of ws) before b (Ok (changed_at began last))
           go true e = let q = eqb-true last began e in rw (eq-eqb last began q) (unchanged q)
           go false e = let q = eqb-false last began e in rw (ne_eqb last began q) (changed q)

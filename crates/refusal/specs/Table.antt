@@ -1,8 +1,6 @@
 -- THE REFUSAL TABLE of document 01, and of document 02 from 15 on: the number and the place of each row. Assumes nothing.
-use Rattle.std.specs.Prelude.{ℕ, Bool, true, false, ◌&&◌, ◌||◌, leb}
+use Rattle.std.specs.Prelude.{ℕ, Bool, true, false, ◌&&◌, ◌||◌, leb, Result, Ok, Err}
 use Rattle.refusal.specs.declared.Refusal.{Refusal}
-use Rattle.refusal.specs.declared.Checked.{Checked}
-use Rattle.refusal.specs.declared.Checked.TheVariants.{Passed, Refused}
 use Rattle.refusal.specs.declared.Refusal.TheVariants.{NoWords, WrongKind, TermCount, DomainEnd, ZeroCoefficient, TooManyNodes, TooManyEdges, TooManyWords, ValueByte, ClauseWord, UnknownBoolean, LiteralCount, OpenClause, NoRoom, NotDimacs, WrongRelation, LowerEnd, BufferLength, BadRecord}
 
 abbrev pub number_of : Refusal → ℕ
@@ -51,26 +49,33 @@ place_of (BadRecord at) = at
 abbrev pub of_words : ℕ → Bool
 of_words n = leb n 5 || (leb 17 n && leb n 18)
 
+-- What a check finds: nothing to refuse, or the first refusal.
+abbrev pub Checked : Type 0
+Checked = Result Unit Refusal
+
+abbrev pub passed : Checked
+passed = Ok tt
+
 -- THE VALUES OF A CHECK'S ANSWER: number and place of the refusal, 0 and 0 where there is none.
 pub record CheckedValues : Type 0 where
   pub number : ℕ
   pub place : ℕ
 
 abbrev pub checked_values : Checked → CheckedValues
-checked_values Passed = record { number = 0; place = 0 }
-checked_values (Refused x) = record { number = number_of x; place = place_of x }
+checked_values (Ok tt) = record { number = 0; place = 0 }
+checked_values (Err x) = record { number = number_of x; place = place_of x }
 
 -- Checks run in order: the next is asked where the one before has passed.
 abbrev pub and_then : Checked → Checked → Checked
-and_then Passed next = next
-and_then (Refused x) next = Refused x
+and_then (Ok tt) next = next
+and_then (Err x) next = Err x
 
 -- A check of one fact.
 abbrev pub unless : Bool → Refusal → Checked
-unless true x = Passed
-unless false x = Refused x
+unless true x = passed
+unless false x = Err x
 
 -- The answer of a call that checks first: the refusal, as the call's own kind of answer says it, or what comes next.
 abbrev pub unless_refused {ℓ} : {A : Type ℓ} → (Refusal → A) → Checked → A → A
-unless_refused refuse Passed next = next
-unless_refused refuse (Refused x) next = refuse x
+unless_refused refuse (Ok tt) next = next
+unless_refused refuse (Err x) next = refuse x

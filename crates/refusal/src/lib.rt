@@ -28,13 +28,6 @@ pub enum Refusal {
     BadRecord(usize),
 }
 
-// What a check finds: nothing to refuse, or the first refusal.
-#[derive(Clone, Copy)]
-pub enum Checked {
-    Passed,
-    Refused(Refusal),
-}
-
 impl Refusal {
     // The row's number.
     pub fn number(self) -> u32
@@ -68,25 +61,20 @@ impl Refusal {
         ensures { result ≡ place_of self }
     {
         match self {
-            Refusal::WrongKind(at) => at,
-            Refusal::TermCount(at) => at,
-            Refusal::DomainEnd(at) => at,
-            Refusal::ZeroCoefficient(at) => at,
-            Refusal::ValueByte(at) => at,
-            Refusal::ClauseWord(at) => at,
-            Refusal::UnknownBoolean(at) => at,
-            Refusal::LiteralCount(at) => at,
-            Refusal::OpenClause(at) => at,
-            Refusal::NotDimacs(at) => at,
-            Refusal::WrongRelation(at) => at,
-            Refusal::LowerEnd(at) => at,
-            Refusal::BadRecord(at) => at,
-            Refusal::NoWords => 0,
-            Refusal::TooManyNodes => 0,
-            Refusal::TooManyEdges => 0,
-            Refusal::TooManyWords => 0,
-            Refusal::NoRoom => 0,
-            Refusal::BufferLength => 0,
+            Refusal::WrongKind(at)
+            | Refusal::TermCount(at)
+            | Refusal::DomainEnd(at)
+            | Refusal::ZeroCoefficient(at)
+            | Refusal::ValueByte(at)
+            | Refusal::ClauseWord(at)
+            | Refusal::UnknownBoolean(at)
+            | Refusal::LiteralCount(at)
+            | Refusal::OpenClause(at)
+            | Refusal::NotDimacs(at)
+            | Refusal::WrongRelation(at)
+            | Refusal::LowerEnd(at)
+            | Refusal::BadRecord(at) => at,
+            _ => 0,
         }
     }
 }

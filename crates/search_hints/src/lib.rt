@@ -4,11 +4,10 @@
 #![tactic(auto)]
 
 ghost use Rattle.std.specs.Prelude.{◌≡◌, ◌+◌, ◌<◌, ◌≤◌, true, length};
-ghost use Rattle.word.specs.Record.{RecordsFit};
 ghost use Rattle.search_hints.specs.Level.{level_words};
 
 use constraint::Constraint;
-use word::{NodeNumber, RECORD, Remainder, UPPER};
+use word::{NodeNumber, RECORD, Records, Remainder};
 
 // The most records of the second run.
 pub const LONGEST: usize = 512;
@@ -27,16 +26,14 @@ const LEVEL: usize = PARTS as usize + 3;
 
 // The shift by which a number up to this one becomes a part's.
 fn shift(most: u32) -> u32 {
-    let zeros = u32::leading_zeros(most);
-    let rest = 32 - BITS;
-    if zeros < rest { rest - zeros } else { 0 }
+    (32 - BITS).saturating_sub(most.leading_zeros())
 }
 
 // Sets the counts of a level whose words begin at a place to 0, and its shift by the greatest remainder.
 fn prepare_level(work: &mut [u32], at: usize, most: u32)
     requires { at + level_words ≤ length work.old }
 {
-    word::clear(&mut work[at..at + LEVEL], 0);
+    word::fill_from(&mut work[at..at + LEVEL], 0, 0);
     work[at + 1] = shift(most);
 }
 
@@ -44,8 +41,7 @@ fn prepare_level(work: &mut [u32], at: usize, most: u32)
 pub fn prepare(work: &mut [u32], rests: &[u32])
     ensures { length work.new ≡ length work.old }
 {
-    let mut i = 0;
-    while i < Constraint::TERMS {
+    for i in 0..Constraint::TERMS {
         let at = MERGING + 1 + i * LEVEL;
         if work.len() < at + LEVEL {
             return;
@@ -55,7 +51,6 @@ pub fn prepare(work: &mut [u32], rests: &[u32])
         }
         work[MERGING] = i as u32 + 1;
         prepare_level(work, at, rests[i]);
-        i += 1;
     }
 }
 
@@ -66,54 +61,42 @@ fn add_to(work: &mut [u32], from: usize, up: usize, n: u32)
     if n == 0 {
         return;
     }
-    let mut k = from;
-    while k < up {
-        work[k] = std::num::wrapping_add_u32(work[k], n);
-        k += 1;
+    if let Some(part) = work.get_mut(from..up) {
+        for w in part {
+            *w = w.wrapping_add(n);
+        }
     }
 }
 
-// Whether record k is one of the first `count` and of the level.
-fn of_level(table: &[u32], count: usize, k: NodeNumber, level: u32) -> bool
-    requires { RecordsFit count table.now }
-    ensures { result ≡ true → k.0 < count }
+// Whether record k is there and of the level.
+fn of_level(records: Records<'_>, k: NodeNumber, level: u32) -> bool
+    ensures { result ≡ true → k.0 < records.entry.count }
 {
-    if count <= k.0 {
-        return false;
-    }
-    table[k.0 * RECORD] == level
+    k.0 < records.count && records.level(k) == level
 }
 
 // Counts in the records of a level, which are those from number k on; the number behind them. They are in order, so n more end before each part between the n-th
-// and the next.
-fn count_level(
-    table: &[u32],
-    work: &mut [u32],
-    count: usize,
-    k: usize,
-    level: u32,
-    at: usize,
-) -> usize
-    requires { RecordsFit count table.now × (at + level_words ≤ length work.old) }
+// and the next. (A `while`, since it runs on to a record of another level.)
+fn count_level(records: Records<'_>, work: &mut [u32], k: usize, level: u32, at: usize) -> usize
+    requires { at + level_words ≤ length work.old }
 {
     let bits = work[at + 1] % 32;
     let mut e = k;
     let mut n: u32 = 0;
     let mut from = at + 2;
-    while of_level(table, count, NodeNumber(e), level) {
-        let up = at + 3 + ((table[e * RECORD + UPPER] >> bits) % PARTS) as usize;
+    while of_level(records, NodeNumber(e), level) {
+        let up = at + 3 + ((records.upper(NodeNumber(e)) >> bits) % PARTS) as usize;
         add_to(work, from, up, n);
         from = up;
-        n = std::num::wrapping_add_u32(n, 1);
+        n = n.wrapping_add(1);
         e += 1;
     }
     add_to(work, from, at + LEVEL, n);
     e
 }
 
-// Counts in the records of the second run, and sums up the numbers of records of the levels before each.
-pub fn count_run(table: &[u32], work: &mut [u32], main: usize, count: usize)
-    requires { RecordsFit count table.now }
+// Counts in the records of the second run, which begins at number `main`, and sums up the numbers of records of the levels before each.
+pub fn count_run(records: Records<'_>, work: &mut [u32], main: usize)
     ensures { length work.new ≡ length work.old }
 {
     if work.len() <= MERGING {
@@ -122,53 +105,42 @@ pub fn count_run(table: &[u32], work: &mut [u32], main: usize, count: usize)
     let levels = work[MERGING] % 128;
     let mut k = main;
     let mut sum: u32 = 0;
-    let mut i: u32 = 0;
-    while i < levels {
+    for i in 0..levels {
         let at = MERGING + 1 + i as usize * LEVEL;
         if work.len() < at + LEVEL {
             return;
         }
-        k = count_level(table, work, count, k, i + 1, at);
+        k = count_level(records, work, k, i + 1, at);
         let all = work[at + LEVEL - 1];
         work[at] = sum;
-        sum = std::num::wrapping_add_u32(sum, all);
-        i += 1;
+        sum = sum.wrapping_add(all);
     }
 }
 
 // Where the remainder may stand among the records of a part, which are those from the one count up to the other behind the start of their level; 0 where these do
-// not lie in the run. Many are halved until few are left.
-fn search_part(
-    table: &[u32],
-    main: usize,
-    start: u32,
-    from: u32,
-    up: u32,
-    r: Remainder,
-) -> NodeNumber
-    requires { RecordsFit main table.now }
-    ensures { result.0 ≤ main }
+// not lie in the run. Many are halved until few are left, by hand as in `search_ordered`.
+fn search_part(records: Records<'_>, start: u32, from: u32, up: u32, r: Remainder) -> NodeNumber
+    ensures { result.0 ≤ records.entry.count }
 {
     if up < from {
         return NodeNumber(0);
     }
     let mut p = start as usize + from as usize;
     let mut left = (up - from) as usize;
-    if main < p + left {
+    if records.count < p + left {
         return NodeNumber(0);
     }
     while search_ordered::FEW < left {
         let half = left - (left >> 1);
-        p = search_ordered::pass(table, p, half, r);
+        p = search_ordered::pass(records, p, half, r);
         left -= half;
     }
-    NodeNumber(search_ordered::pass_few(table, main, p, r))
+    NodeNumber(search_ordered::pass_few(records, p, r))
 }
 
 // The number of the record of the first run that may hold the remainder.
-pub fn guess(table: &[u32], work: &[u32], main: usize, level: u32, r: Remainder) -> NodeNumber
-    requires { RecordsFit main table.now }
-    ensures { result.0 ≤ main }
+pub fn guess(run: Records<'_>, work: &[u32], level: u32, r: Remainder) -> NodeNumber
+    ensures { result.0 ≤ run.entry.count }
 {
     if level == 0 {
         return NodeNumber(0);
@@ -180,5 +152,5 @@ pub fn guess(table: &[u32], work: &[u32], main: usize, level: u32, r: Remainder)
     let x = r.0;
     let part = (x >> (work[at + 1] % 32)) % PARTS;
     let k = at + 2 + part as usize;
-    search_part(table, main, work[at], work[k], work[k + 1], r)
+    search_part(run, work[at], work[k], work[k + 1], r)
 }

@@ -12,12 +12,11 @@ use native.Mathlib.Omega.{arith}
 use lib.ListN.{length, get_or}
 use lib.Dec.{leb, ltb}
 use borrow.Author.Tests.{ne_eqb, leb-true, ltb-true, ltb-false, lt-ltb, le-ltb}
-use Rattle.word.specs.Record.{Record, no_record, labelled, RecordsFit, record_at}
+use Rattle.word.specs.Record.{Record, no_record}
 use Rattle.word.proofs.Tests.{both_true}
-use Rattle.finder.specs.declared.Found.TheVariants.{At, Nothing}
+use Rattle.std.specs.Prelude.{Ok, Err}
 use Rattle.finder.specs.Find.{holds, lies_before, bit_of, gap_in, find_in, key}
 use Rattle.search_ordered.specs.Order.{Before, Sorted, upper_key, last_below, low_levels, Low, hits}
-use Rattle.word.proofs.Labels.{labelled_length, labelled_at}
 use Rattle.search_ordered.proofs.Order.{sorted_at, proper_at}
 use Rattle.word.proofs.Among.{Standing}
 use Rattle.finder.proofs.Gap.{bit_most, gap_split, before_key}
@@ -152,7 +151,7 @@ module _ (xs : List Record) (s : Sorted xs) (level x : ℕ) (small : x < 4294967
 
 -- THE FINDER AMONG RECORDS IN ORDER: a record of the level that holds r is the one it finds.
 pub find_there : (xs : List Record) → Sorted xs → (wanted r : ℕ) (x : Record) (at : Standing x xs) → x.level ≡ wanted → x.lower ≤ r → r ≤ x.upper
-    → find_in xs wanted r ≡ At (record { 0 = at.k })
+    → find_in xs wanted r ≡ Ok (record { 0 = at.k })
 find_there xs s wanted r x at l a b =
     let z : 0 + at.k ≡ at.k = omega arith in
     let held : holds x wanted r ≡ true = (fields_hold_lem x.level x.lower x.upper wanted r).1 (l, a, b) in
@@ -163,7 +162,7 @@ find_there xs s wanted r x at l a b =
         (λ e f g. let o : Before (get_or xs j no_record) x = rw at.here at (sorted_at xs s j at.k m at.within) in omega arith)
 
 -- A record that holds the remainder is the finder's reply.
-record_hit : (xs : List Record) → Sorted xs → (wanted r p : ℕ) → p < length xs → holds (get_or xs p no_record) wanted r ≡ true → At (record { 0 = p }) ≡ find_in xs wanted r
+record_hit : (xs : List Record) → Sorted xs → (wanted r p : ℕ) → p < length xs → holds (get_or xs p no_record) wanted r ≡ true → Ok (record { 0 = p }) ≡ find_in xs wanted r
 record_hit xs s wanted r p h e =
     let x : Record = get_or xs p no_record in
     let t = (fields_hold_lem x.level x.lower x.upper wanted r).0 e in
@@ -171,7 +170,7 @@ record_hit xs s wanted r p h e =
 
 -- Where the record at the gap does not hold it, none does.
 pub gap_miss : (xs : List Record) → Sorted xs → (wanted r p : ℕ) → r < 4294967296 → p ≡ gap_in xs wanted r
-    → (p < length xs → holds (get_or xs p no_record) wanted r ≡ false) → Nothing p ≡ find_in xs wanted r
+    → (p < length xs → holds (get_or xs p no_record) wanted r ≡ false) → Err p ≡ find_in xs wanted r
 gap_miss xs s wanted r p small is e = rw is (sym (find_none xs 0 (gap_in xs wanted r) wanted r none))
   where
     pl : Placed xs wanted r p
@@ -189,23 +188,8 @@ gap_miss xs s wanted r p small is e = rw is (sym (find_none xs 0 (gap_in xs want
     none : NoneBefore xs (length xs) wanted r
     none i l = decide i l (ltb i p) refl
 
--- What a search compares of record m's words is what the record has.
-module _ (t : List ℕ) (count : ℕ) (room : RecordsFit count t) (m : ℕ) (h : m < count) where
-  pub words_low : Low (labelled t count) → (record_at t m).level < low_levels
-  words_low low = rw (labelled_at t count room m h) at (low m (omega (arith, labelled_length t count room)))
-
-  pub words_upper : Sorted (labelled t count) → (record_at t m).upper < 4294967296
-  words_upper s = rw (labelled_at t count room m h) at (proper_at (labelled t count) s m (omega (arith, labelled_length t count room))).1
-
-  -- as a test, and as a bit
-  pub words_below : (level r : ℕ) (b v : Bool) → b ≡ v → b ≡ ltb (key (record_at t m).level (record_at t m).upper) (key level r) → ltb (upper_key (labelled t count) m) (key level r) ≡ v
-  words_below level r b v value e = rw (labelled_at t count room m h) (sym e ∙ value)
-
-  pub words_bit : (level r b : ℕ) → b ≡ bit_of (ltb (key (record_at t m).level (record_at t m).upper) (key level r)) → b ≡ bit_of (ltb (upper_key (labelled t count) m) (key level r))
-  words_bit level r b e = rw (labelled_at t count room m h) e
-
 -- What the test of one record says of the finder's reply.
-pub hits_reply : (xs : List Record) → Sorted xs → (level r p : ℕ) → hits xs level r p ≡ true → At (record { 0 = p }) ≡ find_in xs level r
+pub hits_reply : (xs : List Record) → Sorted xs → (level r p : ℕ) → hits xs level r p ≡ true → Ok (record { 0 = p }) ≡ find_in xs level r
 hits_reply xs s level r p e = let b = both_true (ltb p (length xs)) (holds (get_or xs p no_record) level r) e in record_hit xs s level r p (ltb-true p (length xs) b.0) b.1
 
 pub hits_not : (xs : List Record) (level r p : ℕ) → hits xs level r p ≡ false → p < length xs → holds (get_or xs p no_record) level r ≡ false

@@ -1,5 +1,6 @@
 -- RECORDS IN ORDER: by level, then by label, no two labels of a level overlapping; what a search among them looks at. Assumes nothing.
 use Rattle.std.specs.Prelude.{ℕ, ◌-◌, ◌≤◌, ◌<◌, Bool, ◌&&◌, ◌||◌, List, [], ◌∷◌, eqb, leb, ltb, length, get_or}
+use Rattle.std.specs.Coded.{Unit-prop, le_prop}
 use Rattle.word.specs.Record.{Record, no_record}
 use Rattle.finder.specs.Find.{holds, key}
 
@@ -39,3 +40,14 @@ hits xs level r p = ltb p (length xs) && holds (get_or xs p no_record) level r
 abbrev pub last_below : List Record → ℕ → ℕ → ℕ → Bool
 last_below xs level x n =
     eqb n 0 || (leb n (length xs) && ltb (upper_key xs (n - 1)) (key level x))
+
+-- Any two proofs that records are in order are equal, as a ghost field asks.
+All_before-prop : (x : Record) (xs : List Record) → IsProp (All (Before x) xs)
+unfolding All
+All_before-prop x [] p q = Unit-prop p q
+All_before-prop x (y ∷ ys) p q = λ i. (le_prop p.0 q.0 i, All_before-prop x ys p.1 q.1 i)
+
+pub Sorted-prop : (xs : List Record) → IsProp (Sorted xs)
+unfolding Sorted
+Sorted-prop [] p q = Unit-prop p q
+Sorted-prop (x ∷ xs) p q = λ i. ((le_prop p.0.0 q.0.0 i, le_prop p.0.1 q.0.1 i), All_before-prop x xs p.1 q.1 i, Sorted-prop xs p.2 q.2 i)

@@ -7,8 +7,8 @@ use Prim.Native.Nat.{ℕ, suc, ◌+◌, ◌≤◌}
 use native.Mathlib.Omega.{arith}
 use lib.ListN.{length}
 use Rattle.word.specs.Record.{Record, labelled, RecordsFit}
-use Rattle.finder.specs.declared.Found.{Found}
-use Rattle.finder.specs.declared.Found.TheVariants.{At, Nothing}
+use Rattle.std.specs.Prelude.{Result, Ok, Err}
+use Rattle.word.specs.declared.NodeNumber.{NodeNumber}
 use Rattle.finder.specs.Find.{holds, gap_in, find_from, find_in}
 use Rattle.word.proofs.Labels.{labelled_length}
 use Rattle.finder.proofs.Gap.{gap_append}
@@ -16,9 +16,9 @@ use Rattle.search_runs.specs.Runs.{second_run}
 use Rattle.search_runs.proofs.Views.{both_runs_lem}
 
 -- The reply with its number moved up by m, its gap by a.
-abbrev moved_up : ℕ → ℕ → Found → Found
-moved_up m a (At n) = At (record { 0 = m + n.0 })
-moved_up m a (Nothing gap) = Nothing (a + gap)
+abbrev moved_up : ℕ → ℕ → Result NodeNumber ℕ → Result NodeNumber ℕ
+moved_up m a (Ok n) = Ok (record { 0 = m + n.0 })
+moved_up m a (Err gap) = Err (a + gap)
 
 find_moved : (ys : List Record) (m a k gap wanted r : ℕ) → find_from (m + k) (a + gap) ys wanted r ≡ moved_up m a (find_from k gap ys wanted r)
 unfolding find_from
@@ -26,14 +26,14 @@ find_moved [] m a k gap wanted r = refl
 find_moved (y ∷ ys) m a k gap wanted r = go (holds y wanted r) (find_moved ys m a (suc k) gap wanted r)
   where
     go : (b : Bool) → find_from (m + suc k) (a + gap) ys wanted r ≡ moved_up m a (find_from (suc k) gap ys wanted r)
-        → cond b (At (record { 0 = m + k })) (find_from (suc (m + k)) (a + gap) ys wanted r) ≡ moved_up m a (cond b (At (record { 0 = k })) (find_from (suc k) gap ys wanted r))
+        → cond b (Ok (record { 0 = m + k })) (find_from (suc (m + k)) (a + gap) ys wanted r) ≡ moved_up m a (cond b (Ok (record { 0 = k })) (find_from (suc k) gap ys wanted r))
     go true h = refl
     go false h = let z : m + suc k ≡ suc (m + k) = omega arith in rw z at h
 
 -- The reply from that on m records and that on those behind them.
-abbrev joined : ℕ → Found → Found → Found
-joined m (At k) g = At k
-joined m (Nothing a) g = moved_up m a g
+abbrev joined : ℕ → Result NodeNumber ℕ → Result NodeNumber ℕ → Result NodeNumber ℕ
+joined m (Ok k) g = Ok k
+joined m (Err a) g = moved_up m a g
 
 find_joined : (xs ys : List Record) (k a b wanted r : ℕ) → find_from k (a + b) (xs ++ ys) wanted r ≡ joined (k + length xs) (find_from k a xs wanted r) (find_from 0 b ys wanted r)
 unfolding find_from
@@ -41,13 +41,13 @@ find_joined [] ys k a b wanted r = let z : k ≡ k + 0 + 0 = omega arith in ap (
 find_joined (x ∷ xs) ys k a b wanted r = go (holds x wanted r) (find_joined xs ys (suc k) a b wanted r)
   where
     go : (q : Bool) → find_from (suc k) (a + b) (xs ++ ys) wanted r ≡ joined (suc k + length xs) (find_from (suc k) a xs wanted r) (find_from 0 b ys wanted r)
-        → cond q (At (record { 0 = k })) (find_from (suc k) (a + b) (xs ++ ys) wanted r)
-        ≡ joined (k + suc (length xs)) (cond q (At (record { 0 = k })) (find_from (suc k) a xs wanted r)) (find_from 0 b ys wanted r)
+        → cond q (Ok (record { 0 = k })) (find_from (suc k) (a + b) (xs ++ ys) wanted r)
+        ≡ joined (k + suc (length xs)) (cond q (Ok (record { 0 = k })) (find_from (suc k) a xs wanted r)) (find_from 0 b ys wanted r)
     go true h = refl
     go false h = let z : suc k + length xs ≡ k + suc (length xs) = omega arith in rw z at h
 
 -- THE REPLY from those on the two runs.
-pub find_runs : (t : List ℕ) (m count : ℕ) → m ≤ count → RecordsFit count t → (wanted r : ℕ) (f g : Found) → f ≡ find_in (labelled t m) wanted r → g ≡ find_in (second_run t m count) wanted r
+pub find_runs : (t : List ℕ) (m count : ℕ) → m ≤ count → RecordsFit count t → (wanted r : ℕ) (f g : Result NodeNumber ℕ) → f ≡ find_in (labelled t m) wanted r → g ≡ find_in (second_run t m count) wanted r
     → joined m f g ≡ find_in (labelled t count) wanted r
 find_runs t m count mid room wanted r f g e h =
     let xs : List Record = labelled t m in

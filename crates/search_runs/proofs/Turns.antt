@@ -172,17 +172,28 @@ module _ (t₀ s : List ℕ) (m count : ℕ) (mid : m ≤ count) (room : Records
       stored_beyond t t' (i' + j') count x w (omega (arith, inv.1, inv.2)) ∙ inv.4,
     )
 
-    pub turn_main : last_above (labels t) i k ≡ true → Stored t (i - 1 + j) (get_or (labels t) (i - 1) no_record) t' → Inv t₀ s m count t' (i - 1) j
-    turn_main h w =
+    main_turn : last_above (labels t) i k ≡ true → Stored t (i - 1 + j) (get_or (labels t) (i - 1) no_record) t' → Inv t₀ s m count t' (i - 1) j
+    main_turn h w =
         let i0 = above_some (labels t) i k h in
         stored_inv (i - 1) j (get_or (labels t) (i - 1) no_record) (omega arith) (omega arith) (omega arith)
         (step_main (labelled t₀ m) (labelled s (count - m)) (labels t₀) m (count - m) (labels t) i j i0 some (omega (arith, inv.1, inv.2, inv.3, labels_length t))
         (above_yes (labels t) last k last_key i h) inv.0) w
 
-    pub turn_pending : last_above (labels t) i k ≡ false → Stored t (i + (j - 1)) (get_or (labels s) (j - 1) no_record) t' → Inv t₀ s m count t' i (j - 1)
-    turn_pending h w =
+    pending_turn : last_above (labels t) i k ≡ false → Stored t (i + (j - 1)) (get_or (labels s) (j - 1) no_record) t' → Inv t₀ s m count t' i (j - 1)
+    pending_turn h w =
         let z : get_or (labelled s (count - m)) (j - 1) no_record ≡ get_or (labels s) (j - 1) no_record = get_or-take (count - m) (labels s) (j - 1) no_record (omega (arith, inv.2)) in
         stored_inv i (j - 1) (get_or (labelled s (count - m)) (j - 1) no_record) (omega arith) (omega arith) (omega arith)
         (step_pending (labelled t₀ m) (labelled s (count - m)) (labels t₀) m (count - m) (labels t) i j some (omega (arith, inv.1, inv.2, inv.3, labels_length t))
         (omega (arith, inv.2, labelled_length s (count - m) (omega arith))) (above_no (labels t) last k last_key i h) inv.0)
         (rw z w)
+
+  -- The turns of record j of the second run, which is the last that is left of it.
+  module _ (t : List ℕ) (i j k : ℕ) (inv : Inv t₀ s m count t i (j + 1)) (e : k ≡ key (record_at s j).level (record_at s j).lower) (t' : List ℕ) where
+    last_is : j + 1 - 1 ≡ j
+    last_is = omega arith
+
+    pub turn_main : last_above (labels t) i k ≡ true → Stored t (i - 1 + j + 1) (get_or (labels t) (i - 1) no_record) t' → Inv t₀ s m count t' (i - 1) (j + 1)
+    turn_main h w = let to : i - 1 + (j + 1) ≡ i - 1 + j + 1 = omega arith in main_turn t i (j + 1) k inv (omega arith) (rw last_is e) t' h (rw to w)
+
+    pub turn_pending : last_above (labels t) i k ≡ false → Stored t (i + j) (get_or (labels s) j no_record) t' → Inv t₀ s m count t' i j
+    turn_pending h w = rw last_is at (pending_turn t i (j + 1) k inv (omega arith) (rw last_is e) t' h (rw last_is w))

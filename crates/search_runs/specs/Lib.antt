@@ -1,2 +1,3 @@
 pub mod Runs
 pub mod Merging
+pub mod RunsKept

@@ -8,7 +8,8 @@ use finder::key_of;
 use search_store::{copy_label, move_label};
 use word::{LOWER, NodeNumber, RECORD};
 
-// Whether there is a last one of the first i records, and its key is above k.
+// Whether there is a last one of the first i records, and its key is above k. (The merge writes the table between two looks, so this takes the words and not
+// `Records`.)
 fn last_above(table: &[u32], i: usize, k: u64) -> bool
     requires { RecordsFit i table.now }
     ensures { result ≡ last_above (labels table.now) i k }
@@ -26,16 +27,15 @@ pub fn merge_back(table: &mut [u32], s: &[u32], main: usize, count: usize)
     ensures { Merged table.old main count table.new }
 {
     let mut i = main;
-    let mut j = count - main;
-    while 0 < j {
-        let b = (j - 1) * RECORD;
+    for j in (0..count - main).rev() {
+        let b = j * RECORD;
         let k = key_of(s[b], s[b + LOWER]);
+        // The place moves as far as the keys say, which no range knows.
         while last_above(table, i, k) {
             i -= 1;
-            let to = i + j;
+            let to = i + j + 1;
             move_label(table, NodeNumber(i), NodeNumber(to));
         }
-        j -= 1;
         let to = i + j;
         copy_label(table, s, NodeNumber(j), NodeNumber(to));
     }

@@ -1,4 +1,5 @@
 // Labels, with their levels, stored in the records of a flat table, copied, and put in between others. What the records' other words hold is left open.
+// (The table comes as words and a count, since `Records` only reads.)
 #![tactic(auto)]
 
 ghost use Rattle.std.specs.Prelude.{◌≡◌, suc, ◌+◌, ◌*◌, ◌≤◌, length, drop, get_or};
@@ -14,11 +15,7 @@ pub fn copy_words(from: &[u32], to: &mut [u32])
     requires { length from.now ≤ length to.old }
     ensures { to.new ≡ copied from.now to.old }
 {
-    let mut k = 0;
-    while k < from.len() {
-        to[k] = from[k];
-        k += 1;
-    }
+    to[..from.len()].copy_from_slice(from);
 }
 
 // Stores a level and a label at record number k.
@@ -61,11 +58,8 @@ fn make_room(table: &mut [u32], p: usize, count: usize)
     requires { (p ≤ count) × RecordsFit (suc count) table.old }
     ensures { Raised table.old p count table.new }
 {
-    let mut i = count;
-    while p < i {
-        let to = i;
-        i -= 1;
-        move_label(table, NodeNumber(i), NodeNumber(to));
+    for i in (p..count).rev() {
+        move_label(table, NodeNumber(i), NodeNumber(i + 1));
     }
 }
 

@@ -1,13 +1,12 @@
-// Reads the bytes of a constraint's words from standard input, and prints its diagram.
+// Reads the bytes of a constraint's words from standard input, and prints its diagram. (`dimacs` differs in the text and its room alone; one
+// function for both would take these and the handle, which is no plainer.)
 #![tactic(auto)]
 
 fn main(rt: HostRuntime) {
     let mut input = [0u8; printout::READ];
-    let read = input::read_input(&rt, &mut rt.stdin(), &mut input);
-    if read.failed {
+    let Ok(got) = input::read_input(&rt, &mut rt.stdin(), &mut input) else {
         return;
-    }
-    let got = read.count;
+    };
     let mut table = [0u32; printout::TABLE];
     let mut edges = [0u32; printout::EDGES];
     let mut clauses = [0u32; printout::CLAUSES];

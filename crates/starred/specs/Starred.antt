@@ -1,7 +1,9 @@
 -- THE STARRED EXERCISES of document 01, one table, and the one fact that the encoder's definitions give what it says: the reply's values, and what the three
 -- lent lists hold after the call. What document 01 does not print of a row (the other children, edge lists and clause words) was worked out apart from these
 -- definitions, from the meaning alone: by listing all choices and which of them each right-hand side allows. Assumes nothing.
-use Rattle.std.specs.Prelude.{◌≡◌, refl, List, [], ◌∷◌, ◌++◌, map, ℕ, suc, ◌*◌, replicate}
+use Rattle.refusal.specs.declared.Refusal.{Refusal}
+use Rattle.filler.specs.declared.Counts.{Counts}
+use Rattle.std.specs.Prelude.{◌≡◌, refl, List, [], ◌∷◌, ◌++◌, map, ℕ, suc, ◌*◌, replicate, Result}
 use Rattle.word.specs.Record.{record_words, flat}
 use Rattle.diagram.specs.Label.{overlap, label_of}
 use Rattle.diagram.specs.Table.{insert, place, add_key, add_row, keys_below, root_keys, edge_to, row, node_of_key, nodes_from, table, root}
@@ -12,7 +14,6 @@ use Rattle.encoding.specs.Pattern.{order_words, node_words}
 use Rattle.limits.specs.Limits.{main_limits}
 use Rattle.constraint_words.specs.Reading.{each_from, placed_from, terms_from, checked, as_written, stated}
 use Rattle.filler.specs.Filled.{nodes_for, clauses_for}
-use Rattle.encoder_levels.specs.declared.Encoded.{Encoded}
 use Rattle.encoder_levels.specs.Reply.{EncodedValues, encoded_values, counts_within}
 use Rattle.encoder.specs.Encoded.{encoded, encoded_left}
 
@@ -41,7 +42,7 @@ abbrev pub values : ℕ → ℕ → ℕ → ℕ → ℕ → EncodedValues
 values number place nodes edges words = record { number = number; place = place; nodes = nodes; edges = edges; words = words }
 
 -- What a call with such lists gives, under the main limits.
-abbrev pub answered : Exercise → Encoded → Constraint → Exercise
+abbrev pub answered : Exercise → Result Counts Refusal → Constraint → Exercise
 answered x r c =
     record {
       words = x.words;

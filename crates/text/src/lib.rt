@@ -2,7 +2,6 @@
 #![tactic(auto)]
 
 ghost use Rattle.std.specs.Prelude.{[], ◌∷◌, ◌≡◌, length};
-ghost use Rattle.word.specs.Padded.{cleared};
 ghost use Rattle.text.specs.Cut.{Wrote};
 ghost use Rattle.text.specs.Decimal.{decimal};
 
@@ -22,10 +21,8 @@ pub fn put_all(out: &mut [u8], start: usize, text: &[u8]) -> usize
     ensures { Wrote text.now start out.old out.new result }
 {
     let mut at = start;
-    let mut i = 0;
-    'bytes: while i < text.len() {
-        at = put(out, at, text[i]);
-        i += 1;
+    for &byte in text {
+        at = put(out, at, byte);
     }
     at
 }
@@ -49,15 +46,4 @@ pub fn digits(n: usize) -> usize
         return 1;
     }
     digits(n / 10) + 1
-}
-
-// Zeros in a lent list of bytes, from a place on.
-pub fn clear(list: &mut [u8], from: usize)
-    ensures { list.new ≡ cleared from list.old }
-{
-    let mut i = from;
-    'fill: while i < list.len() {
-        list[i] = 0;
-        i += 1;
-    }
 }

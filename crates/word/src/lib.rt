@@ -1,10 +1,14 @@
 // Words: kind and payload, the words that the encoder writes, and the three numbers that must not be taken for each other.
 #![tactic(auto)]
 
+mod records; // the records of the flat table, where they are only read
+
 ghost use Rattle.std.specs.Prelude.{◌≡◌, true, false, ◌≤◌};
 ghost use Rattle.word.specs.Word.{kind, payload, domain_end, coefficient, boolean, negated, last_boolean, literal_word, last_count, end_word, of_bytes};
-ghost use Rattle.word.specs.Padded.{cleared};
+ghost use Rattle.word.specs.Padded.{filled};
 ghost use Rattle.word.specs.Edge.{to, edge_word, edge_in, edge_boolean, edge_of};
+
+pub use records::Records;
 
 // A Boolean variable, from 1.
 #[derive(Clone, Copy)]
@@ -65,7 +69,7 @@ pub fn payload_of(w: u32) -> u32
 pub fn word_of(a: u8, b: u8, c: u8, d: u8) -> u32
     ensures { result ≡ of_bytes a b c d }
 {
-    a as u32 * 0x1000000 + b as u32 * 0x10000 + c as u32 * 0x100 + d as u32
+    u32::from_be_bytes([a, b, c, d])
 }
 
 // A term's domain end.
@@ -96,20 +100,13 @@ pub fn is_negated(w: u32) -> bool
     HALF <= payload_of(w)
 }
 
-// The word of the literal that says that a Boolean is true.
-pub fn positive(b: Variable) -> u32
+// The word of the literal that says that a Boolean is true, or that it is false.
+pub fn literal(says: bool, b: Variable) -> u32
     requires { b.0 ≤ last_boolean }
-    ensures { result ≡ literal_word true b.0 }
+    ensures { result ≡ literal_word says b.0 }
 {
-    0x80000000 + b.0
-}
-
-// The word of the literal that says that a Boolean is false.
-pub fn negative(b: Variable) -> u32
-    requires { b.0 ≤ last_boolean }
-    ensures { result ≡ literal_word false b.0 }
-{
-    0xA0000000 + b.0
+    let sign = if says { 0x80000000 } else { 0xA0000000 };
+    sign + b.0
 }
 
 // The end word of a clause with k literals.
@@ -120,7 +117,7 @@ pub fn end_word(k: u32) -> u32
     0xC0000000 + k
 }
 
-// The word of an edge.
+// The word of an edge. A node's number has to fit in it, so this is no `From`, which asks nothing.
 pub fn edge_word(c: Child) -> u32
     requires { edge_word (edge_of c) ≤ 4294967295 }
     ensures { result ≡ edge_word (edge_of c) }
@@ -132,17 +129,17 @@ pub fn edge_word(c: Child) -> u32
     }
 }
 
-// The end of an edge, from its word.
-pub fn child_of(w: u32) -> Child
-    ensures { edge_of result ≡ edge_in w }
-{
-    if w == 0xC0000000 {
-        return Child::False;
+impl From<u32> for Child {
+    // The end of an edge, from its word.
+    fn from(w: u32) -> Child
+        ensures { edge_of result ≡ edge_in w }
+    {
+        match w {
+            0xC0000000 => Child::False,
+            0xC0000001 => Child::True,
+            _ => Child::Node(NodeNumber(w as usize)),
+        }
     }
-    if w == 0xC0000001 {
-        return Child::True;
-    }
-    Child::Node(NodeNumber(w as usize))
 }
 
 // The numbering formula: node k is Boolean D + 3 + k, after D order Booleans, T and F.
@@ -165,13 +162,13 @@ pub fn child_variable(orders: u32, c: Child) -> Variable
     }
 }
 
-// Zeros in lent memory, from a place on.
-pub fn clear(list: &mut [u32], from: usize)
-    ensures { list.new ≡ cleared from list.old }
+// A value in lent memory, from a place on.
+pub fn fill_from<T: Copy>(list: &mut [T], from: usize, value: T)
+    ensures { list.new ≡ filled value from list.old }
 {
-    let mut i = from;
-    'fill: while i < list.len() {
-        list[i] = 0;
-        i += 1;
+    if from < list.len() {
+        for place in list[from..].iter_mut() {
+            *place = value;
+        }
     }
 }

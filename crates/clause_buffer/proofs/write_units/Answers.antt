@@ -15,4 +15,4 @@ returns c =
     let second = c.literal-f.ensures ∙ ap (literal_word false) c.child_variable-2.ensures in
     let third = c.literal-r.ensures ∙ ap (literal_word true) c.child_variable-3.ensures in
     wrote_words_as (units_are args.orders (edge_of args.root) first second third)
-    (wrote_words_then c.put_one-second.ensures (wrote_words_then c.put_one-third.ensures c.put_one.ensures))
+    (wrote_words_then c.put_clause-second.ensures (wrote_words_then c.put_clause-third.ensures c.put_clause.ensures))

@@ -1,26 +1,23 @@
--- `clause_writer::forward` meets its contract. The invariant: the sum is the number of order Booleans before level i. The measure is the number of
--- levels left. Assumes nothing.
-use mathlib.Core.Path.{◌≡◌, ap, ◌∙◌}
+-- `clause_writer::forward` meets its contract: each level adds its order Booleans. Assumes nothing.
+use Prim.Native.Nat.{◌+◌, ◌-◌, ◌<◌}
 use native.Mathlib.Omega.{arith}
-use Rattle.encoding.specs.Boolean.{orders_before}
-use Rattle.clause_buffer.specs.Ended.{ended}
+use lib.ListN.{drop, length-take}
+use Rattle.std.proofs.lemmas.List.{get_or-take, get_or-drop}
 use Rattle.clause_writer.proofs.Turns.{before_next, before_fits}
 use Rattle.clause_writer.proofs.forward.Goals as goal
-
-pub levels-init : goal.levels-init
-levels-init c = (c.requires.early, c.requires.known)
 
 pub overflow_add-earlier : goal.overflow_add-earlier
 overflow_add-earlier c =
     let ends = c.args.ends.now in
-    omega (arith, before_fits ends c.levels.i (omega arith))
+    let n = c.args.level - c.args.from in
+    let i = c.loop-end.end-index in
+    let h : i < n = omega (arith, length-take n (drop c.args.from ends)) in
+    omega (arith, get_or-take n (drop c.args.from ends) i 0 h, get_or-drop c.args.from ends i 0, before_fits ends (c.args.from + i) (omega arith))
 
-pub levels-preserved : goal.levels-preserved
-levels-preserved c =
+pub loop-end-preserved : goal.loop-end-preserved
+loop-end-preserved c =
     let ends = c.args.ends.now in
-    (omega arith, omega (arith, before_next ends c.levels.i (omega arith)))
-
-pub returns : goal.returns
-returns c =
-    let same : c.levels.i ≡ c.args.level = omega arith in
-    c.levels.invariant.1 ∙ ap (orders_before (ended c.args.ends.now)) same
+    let n = c.args.level - c.args.from in
+    let i = c.loop-end.end-index in
+    let h : i < n = omega (arith, length-take n (drop c.args.from ends)) in
+    grind (arith, get_or-take n (drop c.args.from ends) i 0 h, get_or-drop c.args.from ends i 0, before_next ends (c.args.from + i) (omega arith))

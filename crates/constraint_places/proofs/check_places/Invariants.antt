@@ -1,14 +1,10 @@
--- `constraint_places::check_places` meets its contract. The loop's invariant: the check of the words from `at` on, with what is due, is that of all items.
--- The measure is the number of words left. Assumes nothing.
+-- `constraint_places::check_places` meets its contract. The loop's invariant: the check of the words from `at` on, with what is due, is that of all items. Assumes
+-- nothing.
 use mathlib.Core.Path.{◌≡◌}
 use mathlib.Core.Bool.{false}
-use Prim.Native.Nat.{◌-◌, ◌≤◌}
-use lib.ListN.{length, drop}
+use lib.ListN.{drop}
 use Rattle.constraint_words.specs.Reading.{placed_from}
 use Rattle.constraint_places.proofs.check_places.Given as goal
 
 abbrev pub invariant-places : goal.invariant-places
-invariant-places l = (l.at ≤ length l.words) × (placed_from false l.first (drop l.first l.words) ≡ placed_from l.due l.at (drop l.at l.words))
-
-abbrev pub decreases-places : goal.decreases-places
-decreases-places l = length l.words - l.at
+invariant-places l = placed_from false l.first (drop l.first l.words) ≡ placed_from l.due l.at (drop l.at l.words)

@@ -1,14 +1,14 @@
 -- `constraint_words::is_plain` meets its contract. Assumes nothing.
-use mathlib.Core.Path.{ap}
+use mathlib.Core.Path.{ap, sym, ◌∙◌}
 use Prim.Native.Nat.{ℕ, ◌+◌}
-use native.Mathlib.Omega.{arith}
 use lib.Dec.{eqb}
-use lib.ListN.{length, drop, length-drop}
-use Rattle.constraint_words.proofs.Plain.{unsigned_most}
+use lib.ListN.{length, drop}
+use Rattle.std.specs.Prelude.{count_by}
+use Rattle.std.proofs.lemmas.List.{take_rest}
+use Rattle.constraint_words.proofs.Plain.{unsigned_by}
 use Rattle.constraint_words.proofs.is_plain.Goals as goal
 
-pub overflow_add-result : goal.overflow_add-result
-overflow_add-result c = let ws = c.args.words.now in omega (arith, c.count_unsigned.ensures, unsigned_most (drop 1 ws), length-drop 1 ws)
-
 pub returns : goal.returns
-returns c = let ws = c.args.words.now in ap (λ (n : ℕ). eqb (n + 1) (length ws)) c.count_unsigned.ensures
+returns c =
+    let ws = c.args.words.now in
+    ap (λ (n : ℕ). eqb (n + 1) (length ws)) (c.count_unsigned.ensures ∙ ap (count_by _) (take_rest ws 1) ∙ sym (unsigned_by (drop 1 ws)))

@@ -5,8 +5,5 @@ use Rattle.dimacs_text.specs.Text.{sign}
 use Rattle.text.proofs.Cuts.{wrote_as, wrote_none}
 use Rattle.dimacs_writer.proofs.put_sign.Goals as goal
 
-pub returns-then-negated : goal.returns-then-negated
-returns-then-negated c = wrote_as (ap (λ (b : Bool). sign (not b)) (sym c.if-negated.true)) c.put.ensures
-
 pub returns : goal.returns
 returns c = wrote_as (ap (λ (b : Bool). sign (not b)) (sym c.if-negated.false)) (wrote_none _ _)

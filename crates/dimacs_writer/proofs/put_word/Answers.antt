@@ -5,11 +5,8 @@ use mathlib.Core.Bool.{Bool, not}
 use Rattle.text.specs.Decimal.{decimal}
 use Rattle.text.proofs.Cuts.{wrote_as, wrote_then}
 use Rattle.dimacs_text.specs.Text.{sign}
-use Rattle.dimacs_writer.proofs.Turns.{word_end, word_literal}
+use Rattle.dimacs_writer.proofs.Turns.{word_literal}
 use Rattle.dimacs_writer.proofs.put_word.Goals as goal
-
-pub returns-then-kind_of-eq3 : goal.returns-then-kind_of-eq3
-returns-then-kind_of-eq3 c = wrote_as (word_end c.args.w (omega arith)) c.put_all.ensures
 
 pub returns : goal.returns
 returns c =

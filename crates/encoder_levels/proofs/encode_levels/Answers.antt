@@ -5,21 +5,18 @@ use Rattle.encoder_levels.proofs.encode_levels.Goals as goal
 pub finish-requires : goal.finish-requires
 finish-requires c =
     let z = bound_of_some c.args.bound in
-    let d = rw c.in-Rooted.is at (c.draw.ensures z.0 z.1) in
-    record {
-      lent = c.requires.lent;
-      tabled = (z.0, recounted _ _ _ _ c.requires.orders_value d.1);
-    }
+    let d = rw c.in-Some.is at (c.draw.ensures z.0 z.1) in
+    (z.0, recounted _ _ _ _ c.requires d.1)
 
-pub returns-in-Full : goal.returns-in-Full
-returns-in-Full c =
+pub returns-in_default-clause-answered : goal.returns-in_default-clause-answered
+returns-in_default-clause-answered c =
     λ a e.
-    let d = rw c.in-Full.is at (c.draw.ensures a e) in
-    full_answer c.args.limits c.args.coefs.now c.args.ends.now a c.args.table.now _ _ c.args.clauses.now _ _ _ _ _ d c.draw.auto.table c.draw.auto.clauses c.refuse.ensures
+    let d = rw c.in_default.is at (c.draw.ensures a e) in
+    full_answer c.args.limits c.args.levels.coefficients.now c.args.levels.ends.now a c.args.lists.now.table.now _ _ c.args.lists.now.clauses.now _ _ _ _ _ d c.draw.auto.table c.draw.auto.clauses c.refuse.ensures.cleared
 
-pub returns-in-Rooted : goal.returns-in-Rooted
-returns-in-Rooted c =
+pub returns-clause-answered : goal.returns-clause-answered
+returns-clause-answered c =
     λ a e.
-    let d = rw c.in-Rooted.is at (c.draw.ensures a e) in
-    same_answer c.args.limits c.args.coefs.now c.args.ends.now a c.args.table.now _ _ c.args.clauses.now _ _ _ _ _ c.draw.auto.table c.draw.auto.clauses
-    (c.finish.ensures c.args.limits a d.0 (recounted _ _ _ _ c.requires.orders_value d.1))
+    let d = rw c.in-Some.is at (c.draw.ensures a e) in
+    same_answer c.args.limits c.args.levels.coefficients.now c.args.levels.ends.now a c.args.lists.now.table.now _ _ c.args.lists.now.clauses.now _ _ _ _ _ c.draw.auto.table c.draw.auto.clauses
+    (c.finish.ensures.answered c.args.limits a d.0 (recounted _ _ _ _ c.requires d.1))

@@ -3,11 +3,11 @@ use mathlib.Core.Path.{refl, ◌∙◌}
 use Rattle.word.proofs.Cleared.{cleared_all}
 use Rattle.encoder_levels.proofs.refuse.Goals as goal
 
-pub returns : goal.returns
-returns c =
+pub returns-clause-cleared : goal.returns-clause-cleared
+returns-clause-cleared c =
     record {
       reply = refl;
-      table = c.clear.ensures ∙ cleared_all c.args.table.now;
-      edges = c.clear-2.ensures ∙ cleared_all c.args.edges.now;
-      clauses = c.clear-3.ensures ∙ cleared_all c.args.clauses.now;
+      table = c.fill_from.ensures ∙ cleared_all c.args.lists.now.table.now;
+      edges = c.fill_from-2.ensures ∙ cleared_all c.args.lists.now.edges.now;
+      clauses = c.fill_from-3.ensures ∙ cleared_all c.args.lists.now.clauses.now;
     }

@@ -1,27 +1,13 @@
--- `finder::find` meets its contract. The loop's invariant: the reply is what the definition gives from record k on, and the gap of the records before
--- is counted. The measure is the number of records left. Assumes nothing.
-use borrow.Author.Rules.{rules}
-use native.Mathlib.Omega.{arith}
-use mathlib.Core.Path.{refl}
-use Rattle.word.proofs.Flat.{records_length}
+-- `finder::find` meets its contract: what it reads at a record's number are the words of that record in the table. Assumes nothing.
+use Rattle.std.proofs.Common.{rules}
+use Rattle.word.specs.Record.{records, no_record}
+use Rattle.word.proofs.Flat.{records_length, record_at_lem}
 use Rattle.word.proofs.Giving.{gives}
 use Rattle.finder.specs.Find.{found_values}
-use Rattle.finder.proofs.Laws.{past_start, past_within, find_hit, find_miss, find_end}
 use Rattle.finder.proofs.find.Goals as goal
 
-pub loop-k-init : goal.loop-k-init
-loop-k-init c = (refl, search rules, past_start _ _ _)
-
-pub returns-then-holds : goal.returns-then-holds
-returns-then-holds c = gives found_values (find_hit _ _ _ _ _ c.loop-k.invariant.2 (search rules) _ c.holds.ensures c.if-holds.true)
-
-pub overflow_add-gap : goal.overflow_add-gap
-overflow_add-gap c =
-    let past = find_miss _ _ _ _ _ c.loop-k.invariant.2 (search rules) _ c.holds.ensures c.if-holds.false _ c.lies_before-gap.ensures in
-    omega (arith, past_within _ _ _ _ _ past (omega (arith, records_length c.args.table.now)))
-
-pub loop-k-preserved : goal.loop-k-preserved
-loop-k-preserved c = (refl, search rules, find_miss _ _ _ _ _ c.loop-k.invariant.2 (search rules) _ c.holds.ensures c.if-holds.false _ c.lies_before-gap.ensures)
-
 pub returns : goal.returns
-returns c = gives found_values (find_end _ _ _ _ _ c.loop-k.invariant.2 (search rules))
+returns c =
+    let t = c.args.table.now in
+    gives found_values
+    (c.search.ensures (records t) (records_length t) (λ k inside x replied. rw (record_at_lem t k no_record inside) (search rules)))

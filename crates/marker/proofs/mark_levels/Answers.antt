@@ -6,14 +6,13 @@ use Rattle.constraint.proofs.Slices.{rests_count, rest_at}
 use Rattle.marker.proofs.Judging.{none_refused, none_passed}
 use Rattle.marker.proofs.mark_levels.Goals as goal
 
-pub bounds-rests-0 : goal.bounds-rests-0
-bounds-rests-0 c = omega (arith, rests_count _ _ _ c.requires)
+pub bounds-levels-0 : goal.bounds-levels-0
+bounds-levels-0 c = omega (arith, rests_count _ _ _ c.args.levels.lent)
 
-pub overflow_cast-rests : goal.overflow_cast-rests
-overflow_cast-rests c = omega (arith, c.shared_slice_known-then-table-eq0-1.given 0)
-
-pub returns-then-bound-rests : goal.returns-then-bound-rests
-returns-then-bound-rests c = none_refused _ _ _ _ (search rules) c.args.bound refl (omega (arith, c.if-bound-rests.true, rest_at _ _ _ c.requires 0 (omega arith)))
+pub returns-then-bound-levels : goal.returns-then-bound-levels
+returns-then-bound-levels c =
+    none_refused _ _ _ _ (search rules) c.args.bound refl (omega (arith, c.if-bound-levels.true, rest_at _ _ _ c.args.levels.lent 0 (omega arith)))
 
 pub returns-then-table-eq0 : goal.returns-then-table-eq0
-returns-then-table-eq0 c = none_passed _ _ _ _ (search rules) c.args.bound refl (omega (arith, c.if-bound-rests.false, rest_at _ _ _ c.requires 0 (omega arith)))
+returns-then-table-eq0 c =
+    none_passed _ _ _ _ (search rules) c.args.bound refl (omega (arith, c.if-bound-levels.false, rest_at _ _ _ c.args.levels.lent 0 (omega arith)))

@@ -4,8 +4,8 @@ use Rattle.encoder.proofs.Words.{promise_refused, promise_as}
 use Rattle.pongilad.proofs.Laws.{encodes}
 use Rattle.pongilad.proofs.pongilad_encode.Goals as goal
 
-pub returns-in-Refused : goal.returns-in-Refused
-returns-in-Refused c =
-    encodes _ _ _ _ _ _ _ _ _ _ c.refused_reply.ensures
+pub returns-in-Err : goal.returns-in-Err
+returns-in-Err c =
+    encodes _ _ _ _ _ _ _ _ _ _ c.from.ensures
     (promise_as _ _ _ _ _ _ _ _ _ _ c.main_limits-limits.ensures
-    (promise_refused _ c.args.words.now _ _ _ _ (sym c.in-Refused.is ∙ c.check_by.ensures)))
+    (promise_refused _ c.args.words.now _ _ _ _ (sym c.in-Err.is ∙ c.check_by.ensures)))

@@ -1,28 +1,9 @@
 -- `printout_lines::put_nodes` meets its contract. The invariant, for every drawing that lies in the memory: the lines of the nodes before the next are in, and those from
--- it on are left. The measure is the number of nodes left. Assumes nothing.
-use mathlib.Core.Path.{refl}
+-- it on are left. Assumes nothing.
 use native.Mathlib.Omega.{arith}
-use Rattle.text.proofs.Cuts.{left_all, left_less, left_none}
+use Rattle.text.proofs.Cuts.{left_less, left_none}
 use Rattle.printout_lines.proofs.Drawn.{places, lines_turn, lines_none}
 use Rattle.printout_lines.proofs.put_nodes.Goals as goal
-
-pub nodes-init : goal.nodes-init
-nodes-init c = λ ns l. left_all _ _ _ _ refl
-
-pub overflow_add-next : goal.overflow_add-next
-overflow_add-next c = omega (arith, c.requires.1.room)
-
-pub first_edge-first-requires : goal.first_edge-first-requires
-first_edge-first-requires c = record {
-  k_le_count = omega arith;
-  records_fit = c.requires.1.room;
-}
-
-pub first_edge-past-requires : goal.first_edge-past-requires
-first_edge-past-requires c = record {
-  k_le_count = omega arith;
-  records_fit = c.requires.1.room;
-}
 
 pub slice_bounds-put_node-count : goal.slice_bounds-put_node-count
 slice_bounds-put_node-count c =
@@ -48,19 +29,11 @@ offset_bounds-edges-first c =
     let w = places l c.nodes.node _ _ (omega arith) (c.first_edge-first.ensures _ _ l) (c.first_edge-past.ensures _ _ l) in
     omega (arith, w.0, w.1)
 
-pub put_node-at-requires : goal.put_node-at-requires
-put_node-at-requires c = omega (arith, c.requires.1.room)
-
 pub nodes-preserved : goal.nodes-preserved
 nodes-preserved c =
     λ ns l.
     left_less (lines_turn l c.nodes.node _ _ (omega arith) (c.first_edge-first.ensures ns _ l) (c.first_edge-past.ensures ns _ l)) (c.nodes.invariant ns l)
     c.put_node-at.ensures
-
-pub shape_of-out : goal.shape_of-out
-shape_of-out c =
-    let pre = c.requires in
-    (c.nodes.invariant pre.0 pre.1).kept
 
 pub returns : goal.returns
 returns c = λ ns l. left_none (lines_none l c.nodes.node (omega arith)) (c.nodes.invariant ns l)

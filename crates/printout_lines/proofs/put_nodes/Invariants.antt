@@ -1,7 +1,6 @@
 -- `printout_lines::put_nodes` meets its contract. The invariant, for every drawing that lies in the memory: the lines of the nodes before the next are in, and those from
--- it on are left. The measure is the number of nodes left. Assumes nothing.
+-- it on are left. Assumes nothing.
 use mathlib.Core.List.{List}
-use Prim.Native.Nat.{◌-◌}
 use Rattle.diagram.specs.Table.{Node}
 use Rattle.printout_lines.specs.Lying.{Lying}
 use Rattle.text.proofs.Cuts.{Left}
@@ -10,6 +9,3 @@ use Rattle.printout_lines.proofs.put_nodes.Given as goal
 
 abbrev pub invariant-nodes : goal.invariant-nodes
 invariant-nodes l = (ns : List Node) → Lying ns l.table l.count l.edges l.total → Left (lines_left ns 0) l.start l.initial.out (lines_left ns l.node) l.at l.out
-
-abbrev pub decreases-nodes : goal.decreases-nodes
-decreases-nodes l = l.count - l.node

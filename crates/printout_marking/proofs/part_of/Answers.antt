@@ -1,16 +1,13 @@
 -- `printout_marking::part_of` meets its contract, by the two tests of the count. Assumes nothing.
-use native.Mathlib.Omega.{arith}
+use Rattle.std.proofs.Common.{arith}
 use Rattle.printout_marking.proofs.Parts.{part_none, part_short, part_whole}
 use Rattle.printout_marking.proofs.part_of.Goals as goal
 
-pub returns-then-all-eq0 : goal.returns-then-all-eq0
-returns-then-all-eq0 c = part_none _ c.if-all-eq0.true
+pub returns-in_default : goal.returns-in_default
+returns-in_default c = part_none _ c.in_default.len_below
 
-pub overflow_cast-n : goal.overflow_cast-n
-overflow_cast-n c = omega (arith, c.shared_slice_known-1.given 0)
-
-pub returns-then-all-n : goal.returns-then-all-n
-returns-then-all-n c = part_short _ c.if-all-eq0.false (omega (arith, c.if-all-n.true))
+pub returns-then-rest-n : goal.returns-then-rest-n
+returns-then-rest-n c = part_short c.args.words.now c.in-len1-up.len_at_least (omega arith)
 
 pub returns : goal.returns
-returns c = part_whole _ c.if-all-eq0.false (omega (arith, c.if-all-n.false))
+returns c = part_whole c.args.words.now _ _ c.in-len1-up.len_at_least (omega arith) c.split_at.ensures.front c.split_at.ensures.back

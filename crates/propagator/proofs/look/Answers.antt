@@ -1,17 +1,8 @@
 -- `propagator::look` meets its contract. The loop's invariant: the status from here on, with the open literal so far, is the clause's (`Looking`); an end word
 -- is still to come, so no length is tested. Assumes nothing.
 use native.Mathlib.Omega.{arith}
-use Rattle.propagator.proofs.Looks.{looking_start, looking_in, looking_done, looking_word, looking_neither, looking_on}
+use Rattle.propagator.proofs.Looks.{looking_done, looking_word, looking_neither, looking_on}
 use Rattle.propagator.proofs.look.Goals as goal
-
-pub literals-init : goal.literals-init
-literals-init c = looking_start c.args.bytes.now c.args.words.now c.args.from c.requires.1
-
-pub offset_bounds-words-at : goal.offset_bounds-words-at
-offset_bounds-words-at c = omega (arith, looking_in c.args.bytes.now c.args.words.now c.args.from c.literals.found c.literals.at c.literals.invariant)
-
-pub bounds-words-at : goal.bounds-words-at
-bounds-words-at c = looking_in c.args.bytes.now c.args.words.now c.args.from c.literals.found c.literals.at c.literals.invariant
 
 pub returns-then-w-ge-LEAST_END : goal.returns-then-w-ge-LEAST_END
 returns-then-w-ge-LEAST_END c =
@@ -25,16 +16,10 @@ meet-found-requires c = (
   c.literals.invariant.met.literal,
 )
 
-pub returns-then-found : goal.returns-then-found
-returns-then-found c =
+pub returns-in-Nothing : goal.returns-in-Nothing
+returns-in-Nothing c =
     looking_neither c.args.bytes.now c.args.words.now c.args.from c.literals.found c.literals.at c.literals.invariant
-    c.requires.0 (λ e. omega (arith, e)) c.meet-found.result c.meet-found.ensures (omega arith)
-
-pub overflow_add-at : goal.overflow_add-at
-overflow_add-at c = omega (arith, looking_in c.args.bytes.now c.args.words.now c.args.from c.literals.found c.literals.at c.literals.invariant)
-
-pub literals-smaller : goal.literals-smaller
-literals-smaller c = omega (arith, looking_in c.args.bytes.now c.args.words.now c.args.from c.literals.found c.literals.at c.literals.invariant)
+    c.requires.0 (λ e. omega (arith, e)) c.meet-found.result c.meet-found.ensures c.in-Nothing.is
 
 pub literals-preserved : goal.literals-preserved
 literals-preserved c =

@@ -1,9 +1,8 @@
 -- `propagator::next` meets its contract: by its end word, or else by a look and what is past it. Assumes nothing.
 use native.Mathlib.Omega.{arith}
-use mathlib.Core.Path.{◌∙◌}
 use Prim.Native.Nat.{◌+◌}
 use lib.ListN.{length}
-use Rattle.propagator.proofs.Looks.{ended_in, met_asks}
+use Rattle.propagator.proofs.Looks.{met_asks}
 use Rattle.propagator.proofs.Places.{between_ended}
 use Rattle.propagator.proofs.EndWords.{ended_words, ended_past}
 use Rattle.propagator.proofs.next.Goals as goal
@@ -40,9 +39,3 @@ returns-then-words-from-2 c =
 
 pub look-l-requires : goal.look-l-requires
 look-l-requires c = (c.requires.0, between_ended c.args.words.now (length c.args.bytes.now) c.requires.0 c.args.from c.requires.1 c.requires.2)
-
-pub past_end-requires : goal.past_end-requires
-past_end-requires c = omega (arith, ended_in c.args.words.now c.look-l.result.at c.look-l.ensures.ended)
-
-pub returns : goal.returns
-returns c = (c.look-l.ensures.asks, c.past_end.ensures ∙ c.look-l.ensures.past)

@@ -4,8 +4,8 @@ use Rattle.std.proofs.Common.{◌≡◌, ◌+◌, ◌-◌, ◌≤◌, length}
 use Rattle.search_hints.specs.Level.{level_words}
 use Rattle.search_hints.proofs.count_level.Given as goal
 
-abbrev pub invariant-loop-up : goal.invariant-loop-up
-invariant-loop-up l = (length l.work ≡ length l.initial.work) × (l.at + level_words ≤ length l.initial.work)
+abbrev pub invariant-loop-records : goal.invariant-loop-records
+invariant-loop-records l = (length l.work ≡ length l.initial.work) × (l.at + level_words ≤ length l.initial.work)
 
-abbrev pub decreases-loop-up : goal.decreases-loop-up
-decreases-loop-up l = l.count - l.e
+abbrev pub decreases-loop-records : goal.decreases-loop-records
+decreases-loop-records l = l.records.count - l.e

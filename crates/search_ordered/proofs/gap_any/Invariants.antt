@@ -6,7 +6,8 @@ use Rattle.search_ordered.proofs.Search.{Bracket}
 use Rattle.search_ordered.proofs.gap_any.Given as goal
 
 abbrev pub invariant-loop-lo : goal.invariant-loop-lo
-invariant-loop-lo l = Bracket (labelled l.table l.count) l.level l.r.0 l.lo l.hi × (l.hi ≤ l.count)
+invariant-loop-lo l =
+    Bracket (labelled l.ordered.records.table.now l.ordered.records.count) l.level l.r.0 l.lo l.hi × (l.hi ≤ l.ordered.records.count)
 
 abbrev pub decreases-loop-lo : goal.decreases-loop-lo
 decreases-loop-lo l = l.hi - l.lo

@@ -5,19 +5,21 @@ use native.Mathlib.Omega.{arith}
 use borrow.Author.Rules.{rules}
 use borrow.Author.Tests.{not-true}
 use Rattle.word.proofs.Labels.{labelled_length}
-use Rattle.search_ordered.proofs.Search.{bracket_from, bracket_down, bracket_met, words_below}
+use Rattle.search_ordered.proofs.Search.{bracket_from, bracket_down, bracket_met}
 use Rattle.search_ordered.proofs.gap_is.Goals as goal
 
 pub returns-then-not-last_below : goal.returns-then-not-last_below
 returns-then-not-last_below c e = absurd (true≢false (sym e))
 
-pub returns-then-count-n : goal.returns-then-count-n
-returns-then-count-n c e =
+pub returns-then-ordered-n : goal.returns-then-ordered-n
+returns-then-ordered-n c e =
+    let o = c.args.ordered in
     let first = sym c.last_below.ensures ∙ c.if-not-last_below.false in
-    bracket_met _ c.requires.1 _ _ (search rules) _ _ (bracket_from _ c.requires.1 _ _ _ _ (sym (labelled_length _ _ c.requires.0)) first) c.if-count-n.true
+    bracket_met _ o.sorted _ _ (search rules) _ _ (bracket_from _ o.sorted _ _ _ _ (sym (labelled_length _ _ o.records.fit)) first) c.if-ordered-n.true
 
 pub returns : goal.returns
 returns c e =
+    let o = c.args.ordered in
     let first = sym c.last_below.ensures ∙ c.if-not-last_below.false in
-    let test = words_below _ _ c.requires.0 c.args.n (omega arith) _ _ _ _ (not-true c.below.result e) c.below.ensures in
-    bracket_met _ c.requires.1 _ _ (search rules) _ _ (bracket_down _ c.requires.1 _ _ c.args.n c.args.count c.args.n (bracket_from _ c.requires.1 _ _ _ _ (sym (labelled_length _ _ c.requires.0)) first) (omega arith) (omega arith) test) (omega arith)
+    let test = sym c.lies_before.ensures ∙ not-true c.lies_before.result e in
+    bracket_met _ o.sorted _ _ (search rules) _ _ (bracket_down _ o.sorted _ _ c.args.n o.records.count c.args.n (bracket_from _ o.sorted _ _ _ _ (sym (labelled_length _ _ o.records.fit)) first) (omega arith) (omega arith) test) (omega arith)

@@ -12,11 +12,14 @@ pub returns-then-level-ge-LOW : goal.returns-then-level-ge-LOW
 returns-then-level-ge-LOW c e = absurd (true≢false (sym e))
 
 pub returns-then-count-eq0 : goal.returns-then-count-eq0
-returns-then-count-eq0 c e = (λ k h. absurd (omega (arith, c.if-count-eq0.true, labelled_length c.args.table.now c.args.count c.requires.0)), omega (arith, c.if-level-ge-LOW.false))
+returns-then-count-eq0 c e =
+    let rs = c.args.ordered.records in
+    (λ k h. absurd (omega (arith, c.if-count-eq0.true, labelled_length rs.table.now rs.count rs.fit)), omega (arith, c.if-level-ge-LOW.false))
 
 pub returns : goal.returns
 returns c e =
     let some = c.if-count-eq0.false in
-    let room = c.requires.0 in
-    let n = labelled_length c.args.table.now c.args.count room in
-    (low_last _ c.requires.1 (c.args.count - 1) (omega arith) (rw (labelled_at c.args.table.now c.args.count room (c.args.count - 1) (omega arith)) (ltb-true _ _ e)), omega (arith, c.if-level-ge-LOW.false))
+    let rs = c.args.ordered.records in
+    let n = labelled_length rs.table.now rs.count rs.fit in
+    let last = ltb-true _ _ e in
+    (low_last _ c.args.ordered.sorted (rs.count - 1) (omega arith) (rw (labelled_at rs.table.now rs.count rs.fit (rs.count - 1) (omega arith)) (rw (c.level.ensures) at last)), omega (arith, c.if-level-ge-LOW.false))

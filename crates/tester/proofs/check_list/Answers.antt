@@ -1,73 +1,42 @@
--- `tester::check_list` meets its contract. The loop's invariant: the words before `at` pass and leave `count` literals without an end word, so the check
--- is what the definition gives from there on. The measure is the number of words left. Assumes nothing.
-use native.Mathlib.Omega.{arith}
-use mathlib.Core.Path.{refl, sym, ◌∙◌}
+-- `tester::check_list` meets its contract: each word goes on, or is refused, as the definition says of it. Assumes nothing.
+use Rattle.std.proofs.Common.{◌≡◌, sym, ap, ◌∙◌, length, arith, Err}
+use Rattle.refusal.specs.declared.Refusal.TheVariants.{OpenClause}
 use Rattle.tester.proofs.Checks.{end_good, end_bad, kind_bad, literal_zero, literal_beyond, literal_good, words_good, words_bad}
 use Rattle.tester.proofs.check_list.Goals as goal
-
-pub words-init : goal.words-init
-words-init c = (omega arith, omega arith, refl)
-
-pub returns-then-payload_of-count : goal.returns-then-payload_of-count
-returns-then-payload_of-count c =
-    let args = c.args in
-    let ws = args.words.now in
-    let at = c.words.at in
-    let k = c.words.count in
-    sym (c.words.invariant.2 ∙ end_bad args.known ws at k (omega arith) (omega arith) (λ e. omega (arith, e)))
-
-pub words-preserved-then-k-eq3 : goal.words-preserved-then-k-eq3
-words-preserved-then-k-eq3 c =
-    let args = c.args in
-    let ws = args.words.now in
-    let at = c.words.at in
-    let k = c.words.count in
-    (omega arith, omega arith, c.words.invariant.2 ∙ end_good args.known ws at k (omega arith) (omega arith) (omega arith))
-
-pub returns-then-k-ne2 : goal.returns-then-k-ne2
-returns-then-k-ne2 c =
-    let args = c.args in
-    let ws = args.words.now in
-    let at = c.words.at in
-    let k = c.words.count in
-    sym (c.words.invariant.2 ∙ kind_bad args.known ws at k (omega arith) (λ e. omega (arith, e)) (λ e. omega (arith, e)))
+use Rattle.tester.proofs.check_list.Goals.{then-b-eq0-via-then-b-eq0, then-b-eq0-via-else-b-eq0+then-known-b, in-Literal+else-b-eq0+else-known-b, in-End+else-payload_of-count}
 
 pub returns-then-b-eq0 : goal.returns-then-b-eq0
 returns-then-b-eq0 c =
-    let args = c.args in
-    let ws = args.words.now in
-    let at = c.words.at in
-    let k = c.words.count in
-    sym (c.words.invariant.2 ∙ literal_zero args.known ws at k (omega arith) (omega arith) (omega arith))
+    elim c.then-b-eq0.branch [
+      | then-b-eq0-via-then-b-eq0 w ↦ sym
+          (c.loop-at.invariant.1 ∙ literal_zero c.args.known _ c.loop-at.at c.loop-at.count (omega arith) c.in-Literal.ensures (omega (arith, w.if-b-eq0.true)))
+      | then-b-eq0-via-else-b-eq0+then-known-b w ↦ sym
+          (c.loop-at.invariant.1 ∙ literal_beyond c.args.known _ c.loop-at.at c.loop-at.count (omega arith) c.in-Literal.ensures (omega (arith, w.if-known-b.true)))
+    ]
 
-pub returns-then-known-b : goal.returns-then-known-b
-returns-then-known-b c =
-    let args = c.args in
-    let ws = args.words.now in
-    let at = c.words.at in
-    let k = c.words.count in
-    sym (c.words.invariant.2 ∙ literal_beyond args.known ws at k (omega arith) (omega arith) (omega arith))
+pub returns-then-payload_of-count : goal.returns-then-payload_of-count
+returns-then-payload_of-count c =
+    sym (c.loop-at.invariant.1 ∙ end_bad c.args.known _ c.loop-at.at c.loop-at.count (omega arith) c.in-End.ensures (λ e. omega (arith, e)))
 
-pub words-preserved : goal.words-preserved
-words-preserved c =
-    let args = c.args in
-    let ws = args.words.now in
-    let at = c.words.at in
-    let k = c.words.count in
-    (omega arith, omega arith, c.words.invariant.2 ∙ literal_good args.known ws at k (omega arith) (omega arith) (omega arith) (omega arith))
+pub returns-in-Other : goal.returns-in-Other
+returns-in-Other c =
+    sym (c.loop-at.invariant.1 ∙ kind_bad c.args.known _ c.loop-at.at c.loop-at.count (omega arith) c.in-Other.ensures.1 c.in-Other.ensures.0)
+
+pub loop-at-preserved : goal.loop-at-preserved
+loop-at-preserved c =
+    elim c.match-from.branch [
+      | in-Literal+else-b-eq0+else-known-b w ↦
+          rw w.count-is
+          (omega arith, c.loop-at.invariant.1 ∙ literal_good c.args.known _ c.loop-at.at c.loop-at.count (omega arith) w.in-Literal.ensures (omega arith) (omega arith))
+      | in-End+else-payload_of-count w ↦
+          rw w.count-is
+          (omega arith, c.loop-at.invariant.1 ∙ end_good c.args.known _ c.loop-at.at c.loop-at.count (omega arith) w.in-End.ensures (omega arith))
+    ]
 
 pub returns-then-count-eq0 : goal.returns-then-count-eq0
-returns-then-count-eq0 c =
-    let args = c.args in
-    let ws = args.words.now in
-    let at = c.words.at in
-    let k = c.words.count in
-    sym (c.words.invariant.2 ∙ words_good args.known ws at k (omega arith) (omega arith))
+returns-then-count-eq0 c = sym (c.loop-at.invariant.1 ∙ words_good c.args.known _ c.loop-at.at c.loop-at.count (omega arith) (omega arith))
 
 pub returns-else-count-eq0 : goal.returns-else-count-eq0
 returns-else-count-eq0 c =
-    let args = c.args in
-    let ws = args.words.now in
-    let at = c.words.at in
-    let k = c.words.count in
-    sym (c.words.invariant.2 ∙ words_bad args.known ws at k (omega arith) (λ e. omega (arith, e)))
+    let ends : c.loop-at.at ≡ length c.args.words.now = omega arith in
+    sym (c.loop-at.invariant.1 ∙ words_bad c.args.known _ c.loop-at.at c.loop-at.count (omega arith) (λ e. omega (arith, e)) ∙ ap (λ at. Err (OpenClause at)) ends)

@@ -1,34 +1,34 @@
--- `tester::test` meets its contract: each arm knows what the checks before it found, and the reply follows from that. Assumes nothing.
-use mathlib.Core.Path.{sym, ◌∙◌}
+-- `tester::test` meets its contract: the first check that refuses is the reply, and where both pass the scan is. Assumes nothing.
+use Rattle.std.proofs.Common.{sym, ap, ◌∙◌, Ok}
+use Rattle.std.proofs.lemmas.Result.{err_from_is_err_and}
 use Rattle.word.proofs.Giving.{gives}
 use Rattle.tester.specs.Tested.{tested_values}
 use Rattle.tester.proofs.Laws.{values_refuse, list_refuses, both_pass}
 use Rattle.tester.proofs.test.Goals as goal
 
-pub returns-in-Refused : goal.returns-in-Refused
-returns-in-Refused c =
-    let args = c.args in
-    gives tested_values
-    (values_refuse args.values.now args.words.now c.in-Refused.x (sym c.check_values.ensures ∙ c.in-Refused.is))
+pub returns-in_err-check_values : goal.returns-in_err-check_values
+returns-in_err-check_values c =
+    let p = err_from_is_err_and c.from_residual.result c.from_residual.ensures.1 in
+    rw (p.1, p.2) (gives tested_values (values_refuse c.args.values.now c.args.words.now _ (sym c.check_values.ensures ∙ c.in_err-check_values.was)))
 
-pub returns-in-Refused-check_list : goal.returns-in-Refused-check_list
-returns-in-Refused-check_list c =
-    let args = c.args in
-    gives tested_values
+pub returns-in_err-check_list : goal.returns-in_err-check_list
+returns-in_err-check_list c =
+    let p = err_from_is_err_and c.from_residual-in_err-check_list.result c.from_residual-in_err-check_list.ensures.1 in
+    rw (p.1, p.2)
+    (gives tested_values
     (list_refuses
-    args.values.now
-    args.words.now
-    c.in-Refused-check_list.x
-    (sym c.check_values.ensures ∙ c.in-Passed.is)
-    (sym c.check_list.ensures ∙ c.in-Refused-check_list.is))
+    c.args.values.now
+    c.args.words.now
+    _
+    (sym c.check_values.ensures ∙ c.in_ok-check_values.was)
+    (sym c.check_list.ensures ∙ c.in_err-check_list.was)))
 
-pub returns-in-Passed-check_list : goal.returns-in-Passed-check_list
-returns-in-Passed-check_list c =
-    let args = c.args in
+pub returns : goal.returns
+returns c =
     gives tested_values
-    (c.scan_list.ensures
+    (ap Ok c.scan_list.ensures
     ∙ both_pass
-    args.values.now
-    args.words.now
-    (sym c.check_values.ensures ∙ c.in-Passed.is)
-    (sym c.check_list.ensures ∙ c.in-Passed-check_list.is))
+    c.args.values.now
+    c.args.words.now
+    (sym c.check_values.ensures ∙ c.in_ok-check_values.was)
+    (sym c.check_list.ensures ∙ c.in_ok-check_list.was))

@@ -1,30 +1,18 @@
 -- `constraint::checking::check_plain` meets its contract: of the checks 3, 4 and 5 are left. Assumes nothing.
-use mathlib.Core.Path.{sym, ◌∙◌}
-use mathlib.Core.Logic.{⊎_elim}
-use Prim.Native.Nat.{◌-◌}
-use native.Mathlib.Omega.{arith}
-use borrow.Author.Tests.{ltb-true, ltb-false}
-use lib.ListN.{length}
-use Rattle.limits.specs.Limits.{term_limit}
-use Rattle.constraint_words.proofs.Checking.{up_to_in, up_to_below, up_to_above}
-use Rattle.constraint_words.proofs.Plain.{plain_count, plain_3, plain_terms}
+use mathlib.Core.Path.{◌≡◌, sym, ◌∙◌}
+use lib.ListN.{drop}
+use Rattle.std.proofs.Common.{rules}
+use Rattle.std.proofs.lemmas.Result.{err_from_is_err_and}
+use Rattle.constraint_words.specs.Reading.{each_from, term_checked}
+use Rattle.constraint_words.proofs.Plain.{plain_3, plain_terms}
 use Rattle.constraint.proofs.checking.check_plain.Goals as goal
 
-pub overflow_sub-terms : goal.overflow_sub-terms
-overflow_sub-terms c = omega (arith, plain_count c.args.words.now c.requires.1)
-
-pub returns-then-terms-lt1 : goal.returns-then-terms-lt1
-returns-then-terms-lt1 c =
-    let l = c.args.limits in
-    let ws = c.args.words.now in
-    let n = length ws - 1 in
-    let most = c.counted_as-most.ensures in
-    sym (plain_3 ws c.requires.1 l c.requires.0
-    (⊎_elim (λ u. up_to_below (term_limit l) n (omega arith)) (λ u. up_to_above (term_limit l) n (omega arith) (omega (arith, most, ltb-true))) c.then-terms-lt1.either))
+pub returns-in_err-check_count : goal.returns-in_err-check_count
+returns-in_err-check_count c =
+    let p = err_from_is_err_and c.from_residual.result c.from_residual.ensures.1 in
+    rw (p.1, p.2) (sym (plain_3 _ c.requires.1 _ c.requires.0 _ (sym c.check_count.ensures ∙ c.in_err-check_count.was)))
 
 pub returns : goal.returns
 returns c =
-    let l = c.args.limits in
-    let ws = c.args.words.now in
-    let most = c.counted_as-most.ensures in
-    c.check_terms.ensures ∙ sym (plain_terms ws c.requires.1 l c.requires.0 (up_to_in (term_limit l) (length ws - 1) (omega arith) (omega (arith, most, ltb-false))))
+    let each : c.check_each.result ≡ each_from term_checked 1 (drop 1 c.args.words.now) = search rules in
+    each ∙ sym (plain_terms _ c.requires.1 _ c.requires.0 (sym c.check_count.ensures ∙ c.in_ok-check_count.was))

@@ -6,8 +6,8 @@ use Prim.Native.Nat.{◌-◌}
 use Rattle.word.specs.Word.{kind}
 use Rattle.constraint.proofs.making.item_before.Goals as goal
 
-pub returns-then-kind_of-eq2 : goal.returns-then-kind_of-eq2
-returns-then-kind_of-eq2 c =
+pub returns-then-kind_of : goal.returns-then-kind_of
+returns-then-kind_of c =
     let a = c.args in
     let k = kind (get_or a.words.now (a.at - 2) 0) in
     rw (c.payload_of.ensures, eq-eqb k 2 (omega arith))

@@ -1,5 +1,4 @@
--- `constraint::making::make_items` meets its contract. The loop's invariant, `Made`: the items from `at` on are in, and so many levels are left as there are terms before.
--- The measure is `level`. Assumes nothing.
+-- `constraint::making::make_items` meets its contract: before each step the items from `at` on are in. Assumes nothing.
 use mathlib.Core.Path.{◌≡◌, sym, ap, subst, ◌∙◌}
 use Prim.Native.Nat.{ℕ, suc}
 use native.Mathlib.Omega.{arith}
@@ -9,7 +8,7 @@ use Rattle.constraint_words.specs.Reading.{terms_in}
 use Rattle.limits.specs.Limits.{main_limits}
 use Rattle.constraint_words.proofs.Laws.{checked_all}
 use Rattle.constraint_words.proofs.Items.{term_count, first_within}
-use Rattle.constraint.proofs.Made.{Made, made_none, item_before_lem, more_fits, fits_as, bound_fits, places_known, shift_known, made_turn, made_all}
+use Rattle.constraint.proofs.Made.{Made, made_none, item_before_lem, more_fits, fits_as, bound_fits, places_known, shift_known, made_turn, making_none, making_next, put_fits, made_all}
 use Rattle.constraint.proofs.making.make_items.Goals as goal
 
 pub count_terms-terms-requires : goal.count_terms-terms-requires
@@ -24,8 +23,9 @@ levels-init c =
     let terms : c.count_terms-terms.result ≡ length (terms_in ws) =
     c.count_terms-terms.ensures ∙ ap (λ (f : ℕ). term_count (drop f ws)) c.first_item.ensures in (
       c.is_turned-turned.ensures,
-      subst (λ (n : ℕ). Made ws n (replicate most_terms 0) (replicate most_terms 0) (replicate (suc most_terms) 0) 0 0 c.bound_by-bound.result (length ws) n) (sym terms)
-          (made_none ws c.requires c.bound_by-bound.result c.bound_by-bound.ensures),
+      making_none _ _ c.begin-made.ensures
+          (subst (λ (n : ℕ). Made ws n (replicate most_terms 0) (replicate most_terms 0) (replicate (suc most_terms) 0) 0 0 c.bound_by-bound.result (length ws) n) (sym terms)
+          (made_none ws c.requires c.bound_by-bound.result c.bound_by-bound.ensures)),
     )
 
 pub overflow_sub-w : goal.overflow_sub-w
@@ -45,41 +45,23 @@ shifted-bound-requires c =
     let f = bound_fits _ c.requires c.levels.invariant.1 (omega arith) in
     (rw c.item_before-item.ensures (item_before_lem _ c.requires c.levels.invariant.1 (omega arith)).lower, f.0, f.1)
 
-pub offset_bounds-coefficients-level : goal.offset_bounds-coefficients-level
-offset_bounds-coefficients-level c = omega (arith, places_known _ c.requires c.levels.invariant.1 (omega arith))
-
-pub bounds-coefficients-level : goal.bounds-coefficients-level
-bounds-coefficients-level c = omega (arith, places_known _ c.requires c.levels.invariant.1 (omega arith))
-
-pub offset_bounds-ends-level : goal.offset_bounds-ends-level
-offset_bounds-ends-level c = omega (arith, places_known _ c.requires c.levels.invariant.1 (omega arith))
-
-pub bounds-ends-level : goal.bounds-ends-level
-bounds-ends-level c = omega (arith, places_known _ c.requires c.levels.invariant.1 (omega arith))
-
-pub overflow_add-orders : goal.overflow_add-orders
-overflow_add-orders c = omega (arith, (fits_as c.levels.rest c.levels.orders c.coefficient_of-coefficient.ensures c.end_of-end.ensures (more_fits _ c.requires c.levels.invariant.1 (omega arith))).1)
-
-pub overflow_mul-rest : goal.overflow_mul-rest
-overflow_mul-rest c = omega (arith, (fits_as c.levels.rest c.levels.orders c.coefficient_of-coefficient.ensures c.end_of-end.ensures (more_fits _ c.requires c.levels.invariant.1 (omega arith))).0)
-
-pub overflow_add-rest : goal.overflow_add-rest
-overflow_add-rest c = omega (arith, (fits_as c.levels.rest c.levels.orders c.coefficient_of-coefficient.ensures c.end_of-end.ensures (more_fits _ c.requires c.levels.invariant.1 (omega arith))).0)
-
-pub offset_bounds-rests-level : goal.offset_bounds-rests-level
-offset_bounds-rests-level c = omega (arith, places_known _ c.requires c.levels.invariant.1 (omega arith))
-
-pub bounds-rests-level : goal.bounds-rests-level
-bounds-rests-level c = omega (arith, places_known _ c.requires c.levels.invariant.1 (omega arith))
+pub put-requires : goal.put-requires
+put-requires c =
+    let ws = c.args.words.now in
+    let m = c.levels.invariant.1 in
+    put_fits _ _ c.levels.made (omega arith) (places_known ws c.requires m (omega arith)).2
+    (fits_as _ c.levels.made.orders c.coefficient_of.ensures c.end_of.ensures (more_fits ws c.requires m (omega arith)))
 
 pub levels-preserved : goal.levels-preserved
 levels-preserved c =
+    let ws = c.args.words.now in
+    let m = c.levels.invariant.1 in
     let moved = c.shifted-bound.ensures in
-    let known = shift_known _ c.requires c.levels.invariant.1 (omega arith) _ _ _ moved.0 c.item_before-item.ensures c.is_negative.ensures c.levels.invariant.0 moved.1 in (
+    let known = shift_known ws c.requires m (omega arith) _ _ _ moved.0 c.item_before-item.ensures c.is_negative.ensures c.levels.invariant.0 moved.1 in (
       c.levels.invariant.0,
-      made_turn _ c.requires c.levels.invariant.1 (omega arith) c.item_before-item.result moved.0 c.shifted-bound.result _ _
-          c.item_before-item.ensures known moved.2 c.coefficient_of-coefficient.ensures c.end_of-end.ensures,
+      making_next _ _ c.levels.made _ (omega arith) c.put.ensures
+          (made_turn ws c.requires m (omega arith) c.item_before-item.result moved.0 c.shifted-bound.result _ _ c.item_before-item.ensures known moved.2 c.coefficient_of.ensures c.end_of.ensures),
     )
 
 pub returns : goal.returns
-returns c = made_all _ c.requires c.bound_of.result c.levels.invariant.1 (omega arith) c.bound_of.ensures
+returns c = made_all _ c.requires _ c.levels.invariant.1 (omega arith) c.bound_of-made.ensures

@@ -1,59 +1,40 @@
--- `constraint::making::make_plain` meets its contract. The loop's invariant is `Made`, with the place behind the level; nothing is added to the bound. The measure is
--- `at`. Assumes nothing.
-use mathlib.Core.Path.{refl, ap, ◌∙◌}
-use Prim.Native.Nat.{ℕ, ◌-◌}
+-- `constraint::making::make_plain` meets its contract: every item is one word, and nothing is added to the bound. Assumes nothing.
+use mathlib.Core.Path.{◌≡◌, refl, ap, ◌∙◌}
+use Prim.Native.Nat.{ℕ, ◌+◌, ◌-◌}
 use native.Mathlib.Omega.{arith}
-use lib.ListN.{length}
+use lib.ListN.{length, get_or}
+use Rattle.word.specs.Word.{coefficient, domain_end}
 use Rattle.constraint_bound.specs.declared.Bound.TheVariants.{Natural}
-use Rattle.constraint.proofs.Made.{places_known, fits_as, made_all}
-use Rattle.constraint_words.proofs.Plain.{plain_count}
+use Rattle.constraint.specs.declared.Constraint.{Constraint as Held}
+use Rattle.constraint.proofs.Made.{places_known, fits_as, making_none, making_next, put_fits, made_all}
 use Rattle.constraint.proofs.Plain.{bound_own, plain_none, plain_fits, plain_turn}
 use Rattle.constraint.proofs.making.make_plain.Goals as goal
 
-pub overflow_sub-terms : goal.overflow_sub-terms
-overflow_sub-terms c = omega (arith, plain_count c.args.words.now c.requires.1)
-
 pub levels-init : goal.levels-init
-levels-init c = plain_none c.args.words.now c.requires.1 c.requires.0 (length c.args.words.now - 1) refl
+levels-init c =
+    let ws = c.args.words.now in (
+      ap (λ (r : Held). r.bound) c.begin-made.ensures ∙ ap (λ (n : ℕ). Natural n) c.payload_of.ensures,
+      making_none _ _ c.begin-made.ensures (plain_none ws c.requires.1 c.requires.0 (length ws - 1) refl),
+    )
 
-pub offset_bounds-words-at : goal.offset_bounds-words-at
-offset_bounds-words-at c = omega (arith, places_known _ c.requires.0 c.levels.invariant (omega arith))
-
-pub bounds-words-at : goal.bounds-words-at
-bounds-words-at c = omega (arith, places_known _ c.requires.0 c.levels.invariant (omega arith))
-
-pub offset_bounds-coefficients-at : goal.offset_bounds-coefficients-at
-offset_bounds-coefficients-at c = omega (arith, places_known _ c.requires.0 c.levels.invariant (omega arith))
-
-pub bounds-coefficients-at : goal.bounds-coefficients-at
-bounds-coefficients-at c = omega (arith, places_known _ c.requires.0 c.levels.invariant (omega arith))
-
-pub offset_bounds-ends-at : goal.offset_bounds-ends-at
-offset_bounds-ends-at c = omega (arith, places_known _ c.requires.0 c.levels.invariant (omega arith))
-
-pub bounds-ends-at : goal.bounds-ends-at
-bounds-ends-at c = omega (arith, places_known _ c.requires.0 c.levels.invariant (omega arith))
-
-pub overflow_add-orders : goal.overflow_add-orders
-overflow_add-orders c = omega (arith, (fits_as c.levels.rest c.levels.orders c.coefficient_of-coefficient.ensures c.end_of-end.ensures (plain_fits _ c.requires.1 c.requires.0 c.levels.invariant (omega arith))).1)
-
-pub overflow_mul-rest : goal.overflow_mul-rest
-overflow_mul-rest c = omega (arith, (fits_as c.levels.rest c.levels.orders c.coefficient_of-coefficient.ensures c.end_of-end.ensures (plain_fits _ c.requires.1 c.requires.0 c.levels.invariant (omega arith))).0)
-
-pub overflow_add-rest : goal.overflow_add-rest
-overflow_add-rest c = omega (arith, (fits_as c.levels.rest c.levels.orders c.coefficient_of-coefficient.ensures c.end_of-end.ensures (plain_fits _ c.requires.1 c.requires.0 c.levels.invariant (omega arith))).0)
-
-pub offset_bounds-rests-at : goal.offset_bounds-rests-at
-offset_bounds-rests-at c = omega (arith, places_known _ c.requires.0 c.levels.invariant (omega arith))
-
-pub bounds-rests-at : goal.bounds-rests-at
-bounds-rests-at c = omega (arith, places_known _ c.requires.0 c.levels.invariant (omega arith))
+pub put-requires : goal.put-requires
+put-requires c =
+    let ws = c.args.words.now in
+    let m = c.levels.invariant.1 in
+    let e : c.levels.level - 1 + 1 ≡ c.levels.level = omega arith in
+    let a = c.coefficient_of.ensures ∙ ap (λ (i : ℕ). coefficient (get_or ws i 0)) e in
+    let d = c.end_of.ensures ∙ ap (λ (i : ℕ). domain_end (get_or ws i 0)) e in
+    put_fits _ _ c.levels.made (omega arith) (places_known ws c.requires.0 m (omega arith)).2 (fits_as _ c.levels.made.orders a d (plain_fits ws c.requires.1 c.requires.0 m (omega arith)))
 
 pub levels-preserved : goal.levels-preserved
-levels-preserved c = plain_turn _ c.requires.1 c.requires.0 c.levels.invariant (omega arith) _ _ c.coefficient_of-coefficient.ensures c.end_of-end.ensures
-
-pub bounds-words-0 : goal.bounds-words-0
-bounds-words-0 c = omega (arith, plain_count c.args.words.now c.requires.1)
+levels-preserved c =
+    let ws = c.args.words.now in
+    let e : c.levels.level - 1 + 1 ≡ c.levels.level = omega arith in
+    let a = c.coefficient_of.ensures ∙ ap (λ (i : ℕ). coefficient (get_or ws i 0)) e in
+    let d = c.end_of.ensures ∙ ap (λ (i : ℕ). domain_end (get_or ws i 0)) e in (
+      ap (λ (r : Held). r.bound) c.put.ensures ∙ c.levels.invariant.0,
+      making_next _ _ c.levels.made _ (omega arith) c.put.ensures (plain_turn ws c.requires.1 c.requires.0 c.levels.invariant.1 (omega arith) _ _ a d),
+    )
 
 pub returns : goal.returns
-returns c = made_all _ c.requires.0 _ c.levels.invariant (omega arith) (ap (λ (n : ℕ). Natural n) c.payload_of.ensures ∙ bound_own _)
+returns c = made_all _ c.requires.0 _ c.levels.invariant.1 (omega arith) (c.levels.invariant.0 ∙ bound_own _)

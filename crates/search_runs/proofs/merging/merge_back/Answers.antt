@@ -1,25 +1,10 @@
 -- `search_runs::merging::merge_back` meets its contract. The invariant of both loops: what is left to merge, followed by what is stored, is the merge of the
 -- runs. Each turn has one record less to merge, of the second run in the outer loop and of the first in the inner. Assumes nothing.
-use mathlib.Core.Path.{refl, sym, ◌∙◌}
+use mathlib.Core.Path.{◌≡◌, sym, ◌∙◌}
+use Prim.Native.Nat.{◌+◌, ◌-◌}
 use native.Mathlib.Omega.{arith}
-use Rattle.word.specs.Record.{labels}
-use Rattle.search_runs.proofs.Turns.{inv_start, inv_end, above_some, turn_main, turn_pending}
+use Rattle.search_runs.proofs.Turns.{inv_end, turn_main, turn_pending}
 use Rattle.search_runs.proofs.merging.merge_back.Goals as goal
-
-pub loop-j-init : goal.loop-j-init
-loop-j-init c = inv_start c.args.table.now c.args.s.now c.args.main c.args.count c.requires.0 c.requires.1 c.requires.2
-
-pub loop-i-init : goal.loop-i-init
-loop-i-init c = (omega arith, refl, λ t₀ h. h)
-
-pub overflow_sub-i : goal.overflow_sub-i
-overflow_sub-i c = let n = c.loop-i in above_some (labels n.table) n.i c.key_of-k.result (sym c.last_above.ensures ∙ c.loop-i-test.true)
-
-pub move_label-requires : goal.move_label-requires
-move_label-requires c = let n = c.loop-i in omega (arith, above_some (labels n.table) n.i c.key_of-k.result (sym c.last_above.ensures ∙ c.loop-i-test.true))
-
-pub loop-i-smaller : goal.loop-i-smaller
-loop-i-smaller c = let n = c.loop-i in omega (arith, above_some (labels n.table) n.i c.key_of-k.result (sym c.last_above.ensures ∙ c.loop-i-test.true))
 
 pub loop-i-preserved : goal.loop-i-preserved
 loop-i-preserved c =
@@ -30,8 +15,8 @@ loop-i-preserved c =
     let moved = c.move_label in (
       omega (arith, n.invariant.0),
       moved.auto.table ∙ n.invariant.1,
-      λ t₀ h. turn_main t₀ c.args.s.now c.args.main c.args.count c.requires.0 (omega (arith, h.3, l.invariant.3)) c.requires.2 n.table n.i l.j key.result
-          (n.invariant.2 t₀ h) (omega arith) key.ensures moved.new.table (sym test.ensures ∙ c.loop-i-test.true) moved.ensures,
+      λ t₀ h. turn_main t₀ c.args.s.now c.args.main c.args.count c.requires.0 (omega (arith, h.3, l.invariant.3)) c.requires.2 n.table n.i (l.j - 1) key.result
+          (n.invariant.2 t₀ h) key.ensures moved.new.table (sym test.ensures ∙ c.loop-i-test.true) moved.ensures,
     )
 
 pub loop-j-preserved : goal.loop-j-preserved
@@ -41,11 +26,9 @@ loop-j-preserved c =
     let key = c.key_of-k in
     let test = c.last_above in
     let copied = c.copy_label in
-    turn_pending c.args.table.now c.args.s.now c.args.main c.args.count c.requires.0 c.requires.1 c.requires.2 n.table n.i l.j key.result
-    (n.invariant.2 c.args.table.now l.invariant) (omega arith) key.ensures copied.new.table (sym test.ensures ∙ c.loop-i-test.false) copied.ensures
-
-pub shape_of-table : goal.shape_of-table
-shape_of-table c = c.loop-j.invariant.3
+    let left : l.j - 1 + 1 ≡ l.j = omega arith in
+    turn_pending c.args.table.now c.args.s.now c.args.main c.args.count c.requires.0 c.requires.1 c.requires.2 n.table n.i (l.j - 1) key.result
+    (n.invariant.2 c.args.table.now (rw left l.invariant)) key.ensures copied.new.table (sym test.ensures ∙ c.loop-i-test.false) copied.ensures
 
 pub returns : goal.returns
 returns c =

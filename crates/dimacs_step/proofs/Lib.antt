@@ -1,2 +1,0 @@
--- Laws of the branches of a step.
-pub mod Branches
