@@ -17,7 +17,7 @@ use search_runs::TwoRuns;
 use word::Remainder;
 
 // The label of an undecided remainder's node at level i, which is found or built. Of the reply's gap, `near` is the second run's part, where the new record will
-// stand.
+// stand. (What the three functions of this cycle ask ties a level to runs that are written between their calls, so it stays in their clauses.)
 #[cycle(building)]
 fn find_node(
     levels: &Levels<'_>,

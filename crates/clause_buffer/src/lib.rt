@@ -12,7 +12,8 @@ ghost use Rattle.clause_buffer.specs.Ended.{ended};
 
 use word::{Child, Variable};
 
-// A clause of N literals, put in at a place; the place behind it.
+// A clause of N literals, put in at a place; the place behind it. (That there is room, and that the numbers fit, is asked of the list and the place that a call gets,
+// so it stays in the clauses here and above.)
 pub fn put_clause<const N: usize>(out: &mut [u32], at: usize, literals: [u32; N]) -> usize
     requires few { N ≤ last_count }
     requires room { Room (literals ++ (end_word N ∷ [])) at out.old }

@@ -77,7 +77,8 @@ fn before_level(ends: &[u32], from: usize, sum: u32, level: usize) -> u32
     forward(ends, from, sum, level)
 }
 
-// The clauses of all nodes in order; the place behind them. A struct of the five lists and numbers would be no plainer: but for `write` no function takes them all.
+// The clauses of all nodes in order; the place behind them. A struct of the five lists and numbers would be no plainer: but for `write` no function takes them all, and `Held`
+// speaks of the table's words and the count.
 fn write_nodes(
     ends: &[u32],
     orders: u32,

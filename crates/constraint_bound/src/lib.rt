@@ -12,7 +12,7 @@ ghost use Rattle.constraint_bound.specs.Sums.{most_bound, most_shift, most_sum, 
 
 use word::HALF;
 
-// A bound: its value, or that it is below 0, when no choice is allowed. (An Option would be no plainer: this is a case of its own and not a missing bound.)
+// A bound: its value, or that it is below 0, when no choice is allowed. (An Option would be no plainer: `None` would read as no bound, that all is allowed, where this means that nothing is.)
 #[derive(Clone, Copy)]
 pub enum Bound {
     Negative,
@@ -36,7 +36,7 @@ pub fn bound_of(d: Difference) -> Bound
     Bound::Natural(d.gain - d.loss)
 }
 
-// The bound once the relation is 'at most'.
+// The bound once the relation is 'at most'. (The relation is the format's number; it is asked here, in `is_turned` and in its check, and an enum would be no plainer.)
 pub fn bound_by(words: &[u32]) -> Difference
     requires { 0 < length words.now }
     ensures { Differ most_bound (bound_by (relation_in words.now) (bound_in words.now)) result }

@@ -187,7 +187,8 @@ fn lead(s: State, says: bool, b: u8) -> Next
     Next::On(to(s, Phase::Literal, says, d))
 }
 
-// The first byte of a number behind the header: a closing 0, a minus sign or a digit.
+// The first byte of a number behind the header: a closing 0, a minus sign or a digit. (`GoodCount` holds only where a clause may follow, so it is asked where it is
+// needed, and is no fact of the state's type.)
 fn begin(s: State, b: u8) -> Next
     requires { GoodCount (counts s) }
     ensures { next result ≡ machine.begin (machine.after (counts s)) b }

@@ -46,7 +46,7 @@ pub fn lies_before(level: u32, upper: u32, wanted: u32, r: Remainder) -> usize
 
 // The reply on `count` records, whose fields `read` gives by number: the number of the first record of the level whose label holds the remainder; where there is
 // none, the gap, which counts the records that lie before the remainder. A record does where its level is smaller than the wanted one, or is that one and its upper
-// end is below the remainder.
+// end is below the remainder. (Level and remainder stay two parameters, here and in the searches: C hands them over apart, and `key_of` makes them one.)
 pub fn search<F: Fn(usize) -> Fields>(
     count: usize,
     read: F,

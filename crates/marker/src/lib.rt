@@ -22,7 +22,7 @@ use records::mark_records;
 use refusal::Refusal;
 use word::RECORD;
 
-// The fields of a record that are read.
+// The fields of a record that are read: one more than the finder reads.
 #[derive(Clone, Copy)]
 struct Fields {
     level: u32,

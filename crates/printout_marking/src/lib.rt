@@ -21,9 +21,6 @@ pub const WORDS: usize = BYTES / 4;
 // The buffer for the line, which is shorter in every case.
 pub const TEXT: usize = 64;
 
-// The number of the refusal that names a bad record.
-const BAD_RECORD: u32 = 20;
-
 // Why a hand-in is not right: its bytes are too many, their number is wrong, or the marker refuses it.
 #[derive(Clone, Copy)]
 pub enum Fault {
@@ -84,15 +81,16 @@ fn mark_bytes(input: &[u8], words: &mut [u32]) -> Result<(), Fault>
 fn put_wrong(x: Refusal, out: &mut [u8]) -> usize
     ensures { Wrote (wrong_line x) 0 out.old out.new result }
 {
-    if x.number() == BAD_RECORD {
-        let a = text::put_all(out, 0, b"record ");
-        let b = text::put_number(out, a, x.place());
-        return text::put(out, b, b'\n');
-    }
-    printout_lines::put_refusal(x, out)
+    let Refusal::BadRecord(k) = x else {
+        return printout_lines::put_refusal(x, out);
+    };
+    let a = text::put_all(out, 0, b"record ");
+    let b = text::put_number(out, a, k);
+    text::put(out, b, b'\n')
 }
 
-// The line for an answer, at the start of the buffer; the place behind it.
+// The line for an answer, at the start of the buffer; the place behind it. (Two of its texts are `printout`'s too, for another length there: to share two calls would be
+// no plainer.)
 fn put_answer(answer: Result<(), Fault>, out: &mut [u8]) -> usize
     ensures { Wrote (answer_text answer) 0 out.old out.new result }
 {

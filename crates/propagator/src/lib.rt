@@ -15,7 +15,8 @@ ghost use Rattle.propagator.specs.Pass.{so_far, LiteralWord, Found, LiteralWords
 use refusal::Refusal;
 use tester::LEAST_END;
 
-// What the propagation of input that fits comes to: all is settled that can be, or there is a conflict.
+// What the propagation of input that fits comes to: all is settled that can be, or there is a conflict. (A conflict is an answer here, and no error, as it is within
+// a pass: a Result in a Result would be no plainer.)
 #[derive(Drop)]
 pub enum Propagated {
     Settled,
@@ -85,7 +86,7 @@ fn look_two(words: &[u32], from: usize, bytes: &[u8]) -> Ask
     }
 }
 
-// What three literals from a place on come to.
+// What three literals from a place on come to. (One function for both would be a loop where this is one line more.)
 fn look_three(words: &[u32], from: usize, bytes: &[u8]) -> Ask
     requires { LiteralWords (length bytes.now) words.now from 3 }
     ensures { Met bytes.now words.now from (from + 3) result }
@@ -98,7 +99,8 @@ fn look_three(words: &[u32], from: usize, bytes: &[u8]) -> Ask
 }
 
 // What the clause that begins at a place asks for. A clause is left as soon as a true literal or a second open one is met.
-// A `for` would be no plainer: an end word comes before the list's end, so the loop tests no length.
+// A `for` would be no plainer: the list ends behind an end word, so the loop has no other end. (What these functions ask ties the words to bytes that are written
+// between the calls, so it stays in their clauses.)
 fn look(words: &[u32], from: usize, bytes: &[u8]) -> Seen
     requires { ListPasses (length bytes.now) words.now × Ended words.now from }
     ensures { Sees bytes.now words.now from result.found result.at }

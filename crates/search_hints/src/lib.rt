@@ -1,6 +1,6 @@
 // Where in the first run the record of a remainder may stand: a guess, by counts that the lent words keep behind those for merging. For each level they count the
 // records that end before each part of the remainders. Whoever uses a guess tests it; no promise rests on these functions, so all that they promise is
-// to keep within the lists.
+// to keep within the lists. (The counts stand at numbers of words in one list, since it is memory that the caller lends.)
 #![tactic(auto)]
 
 ghost use Rattle.std.specs.Prelude.{◌≡◌, ◌+◌, ◌<◌, ◌≤◌, true, length};

@@ -112,7 +112,8 @@ pub fn past_end(words: &[u32], from: usize) -> usize
     }
 }
 
-// The first clause without a true literal, or that there is none. An empty clause has no literal, and its first word is its end word.
+// The first clause without a true literal, or that there is none. An empty clause has no literal, and its first word is its end word. (A
+// `for` would be no plainer: how far a turn goes is found on the way.)
 fn scan_list(values: &[u8], words: &[u32]) -> Option<NotTrue>
     ensures { result ≡ scan (value_in values.now) 0 0 (clauses_of words.now) }
 {

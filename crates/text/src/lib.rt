@@ -1,4 +1,5 @@
-// Bytes put into a lent list, piece by piece, and numbers in decimal; what finds no room is cut off.
+// Bytes put into a lent list, piece by piece, and numbers in decimal; what finds no room is cut off. (There is no heap, and `Wrote` says each piece by the list before
+// and after, and what is cut off. So a list and a place in it go side by side here and wherever text or clauses are written, and no `Display` serves.)
 #![tactic(auto)]
 
 ghost use Rattle.std.specs.Prelude.{[], ◌∷◌, ◌≡◌, length};
