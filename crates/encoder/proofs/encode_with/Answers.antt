@@ -4,9 +4,6 @@ use Rattle.std.proofs.lemmas.Result.{err_from_is_err_and}
 use Rattle.encoder.proofs.Words.{promise_refused}
 use Rattle.encoder.proofs.encode_with.Goals as goal
 
-pub encode_passed-requires : goal.encode_passed-requires
-encode_passed-requires c = (sym c.check_by.ensures ∙ c.in_ok-check_by.was, c.is_plain-plain.ensures)
-
 pub returns-in_err-check_by : goal.returns-in_err-check_by
 returns-in_err-check_by c =
     let p = err_from_is_err_and c.from_residual.result c.from_residual.ensures.1 in

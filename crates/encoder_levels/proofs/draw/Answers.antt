@@ -3,18 +3,12 @@
 use mathlib.Core.Path.{sym, ◌∙◌}
 use native.Mathlib.Omega.{arith}
 use Rattle.constraint_bound.proofs.Laws.{negative_is, natural_is}
-use Rattle.constraint.proofs.Slices.{rests_count, rest_at, rest_small}
-use Rattle.encoder_levels.proofs.Tables.{part_length, drawn_f, drawn_t, drawn_node, drawn_full}
+use Rattle.constraint.proofs.Slices.{rests_count, rest_at}
+use Rattle.encoder_levels.proofs.Tables.{drawn_f, drawn_t, drawn_node}
 use Rattle.encoder_levels.proofs.draw.Goals as goal
 
 pub bounds-levels-0 : goal.bounds-levels-0
 bounds-levels-0 c = omega (arith, rests_count _ _ _ c.args.levels.lent)
-
-pub overflow_cast-r : goal.overflow_cast-r
-overflow_cast-r c = omega (arith, rest_at _ _ _ c.args.levels.lent 0 (omega arith), rest_small _ _ _ c.args.levels.lent 0)
-
-pub slice_bounds-build_root-end-then-b-levels : goal.slice_bounds-build_root-end-then-b-levels
-slice_bounds-build_root-end-then-b-levels c = rw c.room-past.ensures (part_length c.args.limits c.args.table.now)
 
 pub build_root-requires : goal.build_root-requires
 build_root-requires c = omega (arith, rest_at _ _ _ c.args.levels.lent 0 (omega arith))

@@ -1,7 +1,5 @@
 -- `filler::count` meets its contract: the sum over the records gives both counts. Assumes nothing.
-use mathlib.Core.Path.{ap}
 use Prim.Native.Nat.{ℕ, ◌+◌, ◌*◌, ◌-◌}
-use lib.ListN.{length}
 use native.Mathlib.Omega.{arith}
 use Rattle.filler.specs.declared.Counts.{Counts}
 use Rattle.filler.proofs.Sums.{sum_small}
@@ -18,6 +16,3 @@ overflow_mul-result-3 c = omega (arith, c.sum_ends-sum.ensures, sum_small c.requ
 
 pub overflow_add-result-4 : goal.overflow_add-result-4
 overflow_add-result-4 c = omega (arith, c.sum_ends-sum.ensures, sum_small c.requires.countable, c.requires.countable.few)
-
-pub returns : goal.returns
-returns c = ap (λ (sum : ℕ). counts c.args.nodes c.args.orders (length c.args.ends.now) sum) c.sum_ends-sum.ensures

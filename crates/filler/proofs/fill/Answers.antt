@@ -3,11 +3,6 @@ use mathlib.Core.Path.{refl}
 use Rattle.filler.proofs.Passing.{finished, drawn, drawing, lists_filled}
 use Rattle.filler.proofs.fill.Goals as goal
 
-pub link-requires : goal.link-requires
-link-requires c =
-    let p = c.requires in
-    (p.0, finished _ _ _ c.args.levels.lent p.0 c.args.orders c.args.lists.now.table.now c.args.counts.nodes _ p.1 c.args.counts c.args.lists.now.edges.now c.args.lists.now.clauses.now p.2)
-
 pub write-requires : goal.write-requires
 write-requires c =
     let p = c.requires in

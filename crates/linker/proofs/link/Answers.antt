@@ -33,9 +33,6 @@ overflow_sub-i c = let f = known c.args.levels.lent c.requires c.clear_entering.
 pub bounds-levels-i : goal.bounds-levels-i
 bounds-levels-i c = let f = known c.args.levels.lent c.requires c.clear_entering.ensures c.loop-node.invariant c.loop-node-test.true in omega arith
 
-pub overflow_add-past : goal.overflow_add-past
-overflow_add-past c = let f = known c.args.levels.lent c.requires c.clear_entering.ensures c.loop-node.invariant c.loop-node-test.true in omega arith
-
 pub overflow_add-past-in-loop-node : goal.overflow_add-past-in-loop-node
 overflow_add-past-in-loop-node c = let f = known c.args.levels.lent c.requires c.clear_entering.ensures c.loop-node.invariant c.loop-node-test.true in omega arith
 

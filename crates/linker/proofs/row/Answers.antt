@@ -31,11 +31,6 @@ loop-j-init c = (omega arith, refl, refl)
 pub bounds-cursors-j : goal.bounds-cursors-j
 bounds-cursors-j c = let t = term_at _ _ _ c.args.levels.lent c.args.i c.requires.i_in_bounds.0 in omega (arith, t.1, c.requires.i_in_bounds.1)
 
-pub invariant_of-records : goal.invariant_of-records
-invariant_of-records c =
-    let long = ap length c.loop-j.invariant.2 ∙ entered_length c.args.table.now _ in
-    record { fit = omega (arith, c.requires.count_le_most_nodes.1, long) }
-
 pub invariant_of-child : goal.invariant_of-child
 invariant_of-child c =
     let same = ap (λ t. take c.args.count (labels t)) c.loop-j.invariant.2 ∙ ap (take c.args.count) (entered_labels c.args.table.now _) in
