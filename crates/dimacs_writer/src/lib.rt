@@ -24,8 +24,7 @@ pub struct Header {
     pub clauses: usize,
 }
 
-// The header's numbers, from all the words. (Here and below a kind is held against the format's number 3: all that is asked is whether a word ends a clause, and a
-// `match` on `ClauseWord` would be no plainer.)
+// The header's numbers, from all the words. (Here and below a kind is held against the format's number 3: all that is asked is whether a word ends a clause.)
 fn survey(words: &[u32]) -> Header
     ensures { result ≡ headed words.now }
 {

@@ -11,8 +11,6 @@ use Rattle.word.specs.Word.{payload}
 use Rattle.clause.specs.Meaning.{Clause, literal_of, clauses_of}
 use Rattle.propagation.specs.Derived.{HasClause, Derived, Conflicting}
 use Rattle.propagation.specs.Propagated.{put_literal}
-use Rattle.propagator.specs.declared.Ask.{Ask}
-use Rattle.propagator.specs.declared.Ask.TheVariants.{Nothing, Literal, AllFalse}
 use Rattle.propagator.specs.Pass.{ListPasses, Asks, Split, Between, Propagable, StableBefore, StableBehind, changed_at, AfterPass}
 use Rattle.propagator.proofs.Places.{within, either_side, at_start, in_list, status_here, ClauseBefore, one_before, has_last}
 use Rattle.propagator.proofs.PassSoFar.{Direction, PassSoFar, PassTurn, pass_start, pass_falsified, pass_neither, pass_unit, pass_done}
@@ -71,15 +69,15 @@ module _ (ws before : List ℕ) (ready : Propagable ws before) (began : ℕ) whe
             }
 
         -- by what it asks for
-        module _ (asked : Ask) (asks : Asks b ws next asked) where
-          pub backwards_falsified : asked ≡ AllFalse → Conflicting (clauses_of ws) (Derived (clauses_of ws) before)
+        module _ (asked : ℕ) (asks : Asks b ws next asked) where
+          pub backwards_falsified : asked ≡ 0 → Conflicting (clauses_of ws) (Derived (clauses_of ws) before)
           backwards_falsified q = pass_falsified (Back ws) ws before ready began last at b g next next backwards_turn asked asks q
 
-          pub backwards_neither : asked ≡ Nothing → (next ≤ began) × Backwards ws before b began last next
+          pub backwards_neither : asked ≡ 0xC0000000 → (next ≤ began) × Backwards ws before b began last next
           backwards_neither q = (omega (arith, e, h, i), pass_neither (Back ws) ws before ready began last at b g next next backwards_turn asked asks q)
 
-          pub backwards_unit : (w : ℕ) → asked ≡ Literal w → (a : List ℕ) → a ≡ put_literal b (literal_of w) → (next ≤ began) × Backwards ws before a began next next
-          backwards_unit w q a p = (
+          pub backwards_unit : ¬ (asked ≡ 0) → ¬ (asked ≡ 0xC0000000) → (a : List ℕ) → a ≡ put_literal b (literal_of asked) → (next ≤ began) × Backwards ws before a began next next
+          backwards_unit d q a p = (
             omega (arith, e, h, i),
-            pass_unit (Back ws) ws before ready began last at b g next next backwards_turn asked asks w q a (λ z. omega (arith, z, e, h, i)) p,
+            pass_unit (Back ws) ws before ready began last at b g next next backwards_turn asked asks a d q (λ z. omega (arith, z, e, h, i)) p,
           )

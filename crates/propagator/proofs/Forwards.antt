@@ -9,8 +9,6 @@ use Rattle.clause.specs.Meaning.{Clause, literal_of, clauses_of}
 use Rattle.tester.specs.Past.{past_end}
 use Rattle.propagation.specs.Derived.{HasClause, Derived, Conflicting}
 use Rattle.propagation.specs.Propagated.{put_literal}
-use Rattle.propagator.specs.declared.Ask.{Ask}
-use Rattle.propagator.specs.declared.Ask.TheVariants.{Nothing, Literal, AllFalse}
 use Rattle.propagator.specs.Pass.{Asks, Split, Between, Propagable, StableBefore, StableBehind, changed_at, AfterPass}
 use Rattle.propagator.proofs.Places.{either_side, one_behind, at_end, in_list, status_here, split_next, past_end_within}
 use Rattle.propagator.proofs.PassSoFar.{PassSoFar, PassTurn, pass_start, pass_falsified, pass_neither, pass_unit, pass_done}
@@ -65,15 +63,15 @@ module _ (ws before : List ℕ) (ready : Propagable ws before) (began : ℕ) whe
           }
 
       -- by what it asks for
-      module _ (found : Ask) (asks : Asks b ws at found) where
-        pub forwards_falsified : found ≡ AllFalse → Conflicting (clauses_of ws) (Derived (clauses_of ws) before)
+      module _ (found : ℕ) (asks : Asks b ws at found) where
+        pub forwards_falsified : found ≡ 0 → Conflicting (clauses_of ws) (Derived (clauses_of ws) before)
         forwards_falsified e = pass_falsified (Split ws) ws before ready began last at b g at next forwards_turn found asks e
 
-        pub forwards_neither : found ≡ Nothing → (began ≤ next) × Forwards ws before b began last next
+        pub forwards_neither : found ≡ 0xC0000000 → (began ≤ next) × Forwards ws before b began last next
         forwards_neither q = (omega (arith, i, forwards_less.0), pass_neither (Split ws) ws before ready began last at b g at next forwards_turn found asks q)
 
-        pub forwards_unit : (w : ℕ) → found ≡ Literal w → (a : List ℕ) → a ≡ put_literal b (literal_of w) → (began ≤ next) × Forwards ws before a began next next
-        forwards_unit w q a p = (
+        pub forwards_unit : ¬ (found ≡ 0) → ¬ (found ≡ 0xC0000000) → (a : List ℕ) → a ≡ put_literal b (literal_of found) → (began ≤ next) × Forwards ws before a began next next
+        forwards_unit d q a p = (
           omega (arith, i, forwards_less.0),
-          pass_unit (Split ws) ws before ready began last at b g at next forwards_turn found asks w q a (λ z. omega (arith, z, i, forwards_less.0)) p,
+          pass_unit (Split ws) ws before ready began last at b g at next forwards_turn found asks a d q (λ z. omega (arith, z, i, forwards_less.0)) p,
         )

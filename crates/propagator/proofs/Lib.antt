@@ -1,4 +1,5 @@
 -- The turns of the propagator's loops, and the laws of the call.
+pub mod Meets
 pub mod Looks
 pub mod Places
 pub mod EndWords

@@ -2,7 +2,7 @@
 use mathlib.Core.Path.{◌≡◌, refl, sym, ap, subst, ◌∙◌}
 use mathlib.Core.Logic.{◌⊎◌, inl, inr, ⊎_elim}
 use mathlib.Core.List.{List, [], ◌∷◌}
-use mathlib.Core.Bool.{Bool, true, false, cond, not, ◌&&◌}
+use mathlib.Core.Bool.{Bool, true, false, cond, ◌&&◌}
 use Prim.Native.Nat.{ℕ, zero, suc, ◌+◌, ◌≤◌, ◌<◌}
 use native.Mathlib.Nat.{not-suc-le-zero, le_of_suc-le-suc}
 use native.Mathlib.Numerals.{add-one}
@@ -17,16 +17,13 @@ use Rattle.refusal.specs.Table.{and_then, unless, Checked, passed}
 use Rattle.std.specs.Prelude.{Err}
 use Rattle.refusal.specs.declared.Refusal.TheVariants.{ClauseWord, UnknownBoolean, LiteralCount}
 use Rattle.refusal.proofs.Passes.{refused_fails, both_passed, unless_passed}
-use Rattle.clause.specs.Meaning as meaning
 use Rattle.clause.specs.Meaning.{literal_of}
 use Rattle.clause.specs.Check.{list_from}
 use Rattle.tester.specs.Past.{past_end}
 use Rattle.tester.proofs.Scan.{past_on}
-use Rattle.propagation.specs.Derived.{byte_of, byte}
 use Rattle.propagation.specs.Propagated.{Status, neither, unit, falsified, met}
-use Rattle.propagator.specs.declared.Ask.{Ask}
-use Rattle.propagator.specs.declared.Ask.TheVariants.{Nothing, Literal, AllFalse}
 use Rattle.propagator.specs.Pass.{so_far, LiteralWord, Found, LiteralWords, looked, Met, Asks, Ended, Sees, ListPasses}
+use Rattle.propagator.proofs.Meets.{so_far-literal, neither_met}
 
 -- ---- A word of a list that passes
 
@@ -78,14 +75,6 @@ ended_on ws at (z, h, k, f) d = (z, go (eqb at z) refl, k, f)
 -- ---- From one place on
 
 -- nothing is left to ask for: so it stays
-neither_met : (bs : List ℕ) (l : meaning.Literal) → met bs l neither ≡ neither
-neither_met bs l = go (eqb (byte_of bs l.of) (byte l.says)) (eqb (byte_of bs l.of) (byte (not l.says)))
-  where
-    go : (x y : Bool) → cond x neither (cond y neither neither) ≡ neither
-    go true y = refl
-    go false true = refl
-    go false false = refl
-
 neither_looked : (bs ws : List ℕ) → looked bs neither ws ≡ neither
 unfolding looked
 neither_looked bs [] = refl
@@ -106,12 +95,12 @@ module _ (bs ws : List ℕ) (at : ℕ) (s : Status) (h : at < length ws) where
 
 -- ---- What is found so far
 
-pub met_start : (bs ws : List ℕ) (from : ℕ) → Met bs ws from from AllFalse
-met_start bs ws from = record { same = refl; literal = tt }
+pub met_start : (bs ws : List ℕ) (from : ℕ) → Met bs ws from from 0
+met_start bs ws from = record { same = refl; literal = λ n. absurd (n refl) }
 
-module _ (bs ws : List ℕ) (from at : ℕ) (found : Ask) (m : Met bs ws from at found) where
+module _ (bs ws : List ℕ) (from at found : ℕ) (m : Met bs ws from at found) where
   -- one literal more
-  pub met_on : (next : Ask) (to : ℕ) → at < length ws → kind (get_or ws at 0) ≡ 2 → to ≡ at + 1
+  pub met_on : (next to : ℕ) → at < length ws → kind (get_or ws at 0) ≡ 2 → to ≡ at + 1
       → (so_far next ≡ met bs (literal_of (get_or ws at 0)) (so_far found)) × Found (length bs) next → Met bs ws from to next
   met_on next to h k e f =
       record {
@@ -123,20 +112,20 @@ module _ (bs ws : List ℕ) (from at : ℕ) (found : Ask) (m : Met bs ws from at
       }
 
   -- nothing is left to ask for: the words from here on make no difference
-  pub met_neither : (to : ℕ) → found ≡ Nothing → Met bs ws from to found
+  pub met_neither : (to : ℕ) → found ≡ 0xC0000000 → Met bs ws from to found
   met_neither to e =
       record {
         same =
-            m.same ∙ ap (λ (x : Ask). looked bs (so_far x) (drop at ws)) e
+            m.same ∙ ap (λ (x : ℕ). looked bs (so_far x) (drop at ws)) e
             ∙ neither_looked bs (drop at ws)
-            ∙ sym (ap (λ (x : Ask). looked bs (so_far x) (drop to ws)) e ∙ neither_looked bs (drop to ws));
+            ∙ sym (ap (λ (x : ℕ). looked bs (so_far x) (drop to ws)) e ∙ neither_looked bs (drop to ws));
         literal = m.literal;
       }
 
-  pub met_asks_neither : found ≡ Nothing → Asks bs ws from found
+  pub met_asks_neither : found ≡ 0xC0000000 → Asks bs ws from found
   met_asks_neither e =
       record {
-        asked = ap so_far e ∙ sym (m.same ∙ ap (λ (x : Ask). looked bs (so_far x) (drop at ws)) e ∙ neither_looked bs (drop at ws));
+        asked = ap so_far e ∙ sym (m.same ∙ ap (λ (x : ℕ). looked bs (so_far x) (drop at ws)) e ∙ neither_looked bs (drop at ws));
         literal = m.literal;
       }
 
@@ -153,15 +142,15 @@ first_literal n ws at k l =
 -- ---- A look
 
 -- UNDER WAY from `from` to `at`: the end word is still to come
-pub record Looking (bs ws : List ℕ) (from : ℕ) (found : Ask) (at : ℕ) : Type 0 where
+pub record Looking (bs ws : List ℕ) (from found at : ℕ) : Type 0 where
   pub met : Met bs ws from at found
   pub ended : Ended ws at
   pub past : past_end at (drop at ws) ≡ past_end from (drop from ws)
 
-pub looking_start : (bs ws : List ℕ) (from : ℕ) → Ended ws from → Looking bs ws from AllFalse from
+pub looking_start : (bs ws : List ℕ) (from : ℕ) → Ended ws from → Looking bs ws from 0 from
 looking_start bs ws from e = record { met = met_start bs ws from; ended = e; past = refl }
 
-module _ (bs ws : List ℕ) (from : ℕ) (found : Ask) (at : ℕ) (l : Looking bs ws from found at) where
+module _ (bs ws : List ℕ) (from found at : ℕ) (l : Looking bs ws from found at) where
   pub looking_in : at < length ws
   looking_in = ended_in ws at l.ended
 
@@ -173,23 +162,23 @@ module _ (bs ws : List ℕ) (from : ℕ) (found : Ask) (at : ℕ) (l : Looking b
     pub looking_word : LiteralWord (length bs) (get_or ws at 0)
     looking_word = literal_at (length bs) ws listed at looking_in d
 
-    module _ (next : Ask) (f : (so_far next ≡ met bs (literal_of (get_or ws at 0)) (so_far found)) × Found (length bs) next) where
+    module _ (next : ℕ) (f : (so_far next ≡ met bs (literal_of (get_or ws at 0)) (so_far found)) × Found (length bs) next) where
       more : Met bs ws from (at + 1) next
       more = met_on bs ws from at found l.met next (at + 1) looking_in looking_word.0 refl f
 
-      pub looking_neither : next ≡ Nothing → Sees bs ws from next at
+      pub looking_neither : next ≡ 0xC0000000 → Sees bs ws from next at
       looking_neither q = record { asks = met_asks_neither bs ws from (at + 1) next more q; ended = l.ended; past = l.past }
 
       pub looking_on : Looking bs ws from next (at + 1)
       looking_on = record { met = more; ended = ended_on ws at l.ended d; past = sym (past_on ws at looking_in d) ∙ l.past }
 
 -- what is asked for, case by case
-module _ (bs ws : List ℕ) (from : ℕ) (found : Ask) (a : Asks bs ws from found) where
-  pub asks_neither : found ≡ Nothing → looked bs falsified (drop from ws) ≡ neither
+module _ (bs ws : List ℕ) (from found : ℕ) (a : Asks bs ws from found) where
+  pub asks_neither : found ≡ 0xC0000000 → looked bs falsified (drop from ws) ≡ neither
   asks_neither e = sym a.asked ∙ ap so_far e
 
-  pub asks_falsified : found ≡ AllFalse → looked bs falsified (drop from ws) ≡ falsified
+  pub asks_falsified : found ≡ 0 → looked bs falsified (drop from ws) ≡ falsified
   asks_falsified e = sym a.asked ∙ ap so_far e
 
-  pub asks_unit : (w : ℕ) → found ≡ Literal w → looked bs falsified (drop from ws) ≡ unit (literal_of w)
-  asks_unit w e = sym a.asked ∙ ap so_far e
+  pub asks_unit : ¬ (found ≡ 0) → ¬ (found ≡ 0xC0000000) → looked bs falsified (drop from ws) ≡ unit (literal_of found)
+  asks_unit d e = sym a.asked ∙ so_far-literal found (a.literal d e).0

@@ -14,8 +14,6 @@ use Rattle.propagation.specs.Derived.{HasClause, Derived, Conflicting, KnownIn}
 use Rattle.propagation.specs.Propagated.{neither, falsified, status, put_literal}
 use Rattle.propagation.specs.Extension.{SoundExtension, Stable, open_count}
 use Rattle.propagation.proofs.Steps.{extension_start, falsified_conflict, unit_extends}
-use Rattle.propagator.specs.declared.Ask.{Ask}
-use Rattle.propagator.specs.declared.Ask.TheVariants.{Nothing, Literal, AllFalse}
 use Rattle.propagator.specs.Pass.{looked, Asks, Propagable, changed_at, AfterPass}
 use Rattle.std.specs.Prelude.{None, Some, Ok}
 use Rattle.propagator.proofs.Looks.{asks_neither, asks_falsified, asks_unit}
@@ -69,12 +67,12 @@ module _ (Place : Direction) (ws before : List ℕ) (ready : Propagable ws befor
 
   module _ (last at : ℕ) (b : List ℕ) (g : PassSoFar Place (clauses_of ws) before b began last at) where
     -- the clause asks for `found`
-    module _ (begins next : ℕ) (t : PassTurn Place ws g.ahead begins next) (found : Ask) (asks : Asks b ws begins found) where
-      pub pass_falsified : found ≡ AllFalse → Conflicting (clauses_of ws) (Derived (clauses_of ws) before)
+    module _ (begins next : ℕ) (t : PassTurn Place ws g.ahead begins next) (found : ℕ) (asks : Asks b ws begins found) where
+      pub pass_falsified : found ≡ 0 → Conflicting (clauses_of ws) (Derived (clauses_of ws) before)
       pass_falsified e =
           falsified_conflict (clauses_of ws) before b known g.extension t.clause t.in_list (sym (t.reads b) ∙ asks_falsified b ws begins found asks e)
 
-      pub pass_neither : found ≡ Nothing → PassSoFar Place (clauses_of ws) before b began last next
+      pub pass_neither : found ≡ 0xC0000000 → PassSoFar Place (clauses_of ws) before b began last next
       pass_neither e =
           record {
             extension = g.extension;
@@ -92,9 +90,9 @@ module _ (Place : Direction) (ws before : List ℕ) (ready : Propagable ws befor
           none : status b t.clause ≡ neither
           none = sym (t.reads b) ∙ asks_neither b ws begins found asks e
 
-      pub pass_unit : (w : ℕ) → found ≡ Literal w → (a : List ℕ) → ¬ (next ≡ began) → a ≡ put_literal b (literal_of w)
+      pub pass_unit : (a : List ℕ) → ¬ (found ≡ 0) → ¬ (found ≡ 0xC0000000) → ¬ (next ≡ began) → a ≡ put_literal b (literal_of found)
           → PassSoFar Place (clauses_of ws) before a began next next
-      pass_unit w e a n put =
+      pass_unit a d e n put =
           subst (λ (x : List ℕ). PassSoFar Place (clauses_of ws) before x began next next) (sym put)
           (record {
             extension = extends.0;
@@ -109,12 +107,12 @@ module _ (Place : Direction) (ws before : List ℕ) (ready : Propagable ws befor
             fewer = λ q. down (eqb last began) refl extends.1;
           })
         where
-          extends : SoundExtension (clauses_of ws) before (put_literal b (literal_of w)) × (open_count (put_literal b (literal_of w)) < open_count b)
+          extends : SoundExtension (clauses_of ws) before (put_literal b (literal_of found)) × (open_count (put_literal b (literal_of found)) < open_count b)
           extends =
-              unit_extends (clauses_of ws) before b known g.extension t.clause t.in_list (literal_of w)
-              (sym (t.reads b) ∙ asks_unit b ws begins found asks w e)
+              unit_extends (clauses_of ws) before b known g.extension t.clause t.in_list (literal_of found)
+              (sym (t.reads b) ∙ asks_unit b ws begins found asks d e)
 
-          down : (x : Bool) → eqb last began ≡ x → open_count (put_literal b (literal_of w)) < open_count b → open_count (put_literal b (literal_of w)) < open_count before
+          down : (x : Bool) → eqb last began ≡ x → open_count (put_literal b (literal_of found)) < open_count b → open_count (put_literal b (literal_of found)) < open_count before
           down true u h = omega (arith, ap open_count (g.same (eqb-true last began u)).0)
           down false u h = omega (arith, g.fewer (eqb-false last began u))
 

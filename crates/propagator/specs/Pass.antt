@@ -8,24 +8,18 @@ use Rattle.tester.specs.Past.{past_end}
 use Rattle.propagation.specs.Derived.{Derived, Conflicting, Bytes}
 use Rattle.propagation.specs.Propagated.{Status, neither, unit, falsified, met, Outcome, conflict, reached}
 use Rattle.propagation.specs.Extension.{SoundExtension, Stable, open_count}
-use Rattle.propagator.specs.declared.Ask.{Ask}
-use Rattle.propagator.specs.declared.Ask.TheVariants.{Nothing, Literal, AllFalse}
 use Rattle.propagator.specs.declared.Conflict.{Conflict}
 
--- The status that a clause has so far, by what it asks for.
-abbrev pub so_far : Ask → Status
-so_far Nothing = neither
-so_far (Literal w) = unit (literal_of w)
-so_far AllFalse = falsified
+-- The open literal of a clause so far, as a word: 0 for none, the least end word where nothing is left to ask for.
+abbrev pub so_far : ℕ → Status
+so_far w = cond (eqb w 0) falsified (cond (eqb w 0xC0000000) neither (unit (literal_of w)))
 
--- The word of a literal whose Boolean is one of the first n. A literal that is asked for has such a word.
+-- The word of a literal whose Boolean is one of the first n. Such a word is found, or one of the two that say that there is none.
 abbrev pub LiteralWord : ℕ → ℕ → Type 0
 LiteralWord n w = (kind w ≡ 2) × (1 ≤ boolean w) × (boolean w ≤ n)
 
-abbrev pub Found : ℕ → Ask → Type 0
-Found n Nothing = Unit {0}
-Found n (Literal w) = LiteralWord n w
-Found n AllFalse = Unit {0}
+abbrev pub Found : ℕ → ℕ → Type 0
+Found n r = ¬ (r ≡ 0) → ¬ (r ≡ 0xC0000000) → LiteralWord n r
 
 -- The k words from a place on are such words.
 pub record LiteralWords (n : ℕ) (ws : List ℕ) (at k : ℕ) : Type 0 where
@@ -38,12 +32,12 @@ looked bs s [] = s
 looked bs s (w ∷ ws) = let more : Status = looked bs (met bs (literal_of w) s) ws in cond (eqb (kind w) 3) s more
 
 -- What the words of a clause come to from where it begins up to a place: with it, the words from there on give the clause's status.
-pub record Met (bs ws : List ℕ) (from at : ℕ) (found : Ask) : Type 0 where
+pub record Met (bs ws : List ℕ) (from at found : ℕ) : Type 0 where
   pub same : looked bs falsified (drop from ws) ≡ looked bs (so_far found) (drop at ws)
   pub literal : Found (length bs) found
 
 -- What the clause asks for that begins at a place.
-pub record Asks (bs ws : List ℕ) (from : ℕ) (found : Ask) : Type 0 where
+pub record Asks (bs ws : List ℕ) (from found : ℕ) : Type 0 where
   pub asked : so_far found ≡ looked bs falsified (drop from ws)
   pub literal : Found (length bs) found
 
@@ -52,7 +46,7 @@ abbrev pub Ended : List ℕ → ℕ → Type 0
 Ended ws at = (e : ℕ) × (at ≤ e) × (e < length ws) × (kind (get_or ws e 0) ≡ 3)
 
 -- A LOOK at the clause that begins at `from`: it found what the clause asks for, and it ended in the clause, so that the next one begins past the next end word.
-pub record Sees (bs ws : List ℕ) (from : ℕ) (found : Ask) (at : ℕ) : Type 0 where
+pub record Sees (bs ws : List ℕ) (from found at : ℕ) : Type 0 where
   pub asks : Asks bs ws from found
   pub ended : Ended ws at
   pub past : past_end at (drop at ws) ≡ past_end from (drop from ws)

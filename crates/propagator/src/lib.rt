@@ -23,18 +23,11 @@ pub enum Propagated {
     Conflict,
 }
 
-// What a clause asks for: nothing, as a literal is true or two are open; that the one open literal, that of a word, becomes true; or all its literals are false.
-#[derive(Clone, Copy)]
-enum Ask {
-    Nothing,
-    Literal(u32),
-    AllFalse,
-}
-
-// A look at a clause: what it asks for, and the place that the look came to.
+// A look at a clause: the word of the literal that it asks for, LEAST_END where it asks for nothing and 0 where all its literals are false; and the place that the
+// look came to. (As an enum of these three it was tried and proved: its tag beside the word cost up to a half more on long lists.)
 #[derive(Drop)]
 struct Seen {
-    found: Ask,
+    found: u32,
     at: usize,
 }
 
@@ -54,48 +47,47 @@ fn true_byte(w: u32) -> u8
     if word::is_negated(w) { 0 } else { 1 }
 }
 
-// What a clause asks for with the literal of one word more, by what it asked for without it.
-fn meet(found: Ask, w: u32, bytes: &[u8]) -> Ask
+// The open literal that a clause has so far (0 for none, LEAST_END where nothing is left to ask for), after the literal of one word more.
+fn meet(found: u32, w: u32, bytes: &[u8]) -> u32
     requires { LiteralWord (length bytes.now) w × Found (length bytes.now) found }
     ensures { (so_far result ≡ met bytes.now (literal_of w) (so_far found)) × Found (length bytes.now) result }
 {
     let b = word::boolean_of(w).0 as usize;
     let v = bytes[b - 1];
     if v == true_byte(w) {
-        return Ask::Nothing;
+        return LEAST_END;
     }
     if v < 2 {
         return found;
     }
-    match found {
-        Ask::Nothing => Ask::Nothing,
-        Ask::Literal(x) => if x == w { found } else { Ask::Nothing },
-        Ask::AllFalse => Ask::Literal(w),
+    if found == 0 {
+        return w;
     }
+    if found == w { found } else { LEAST_END }
 }
 
 // What two literals from a place on come to; the second is not read where the first leaves nothing to ask for.
-fn look_two(words: &[u32], from: usize, bytes: &[u8]) -> Ask
+fn look_two(words: &[u32], from: usize, bytes: &[u8]) -> u32
     requires { LiteralWords (length bytes.now) words.now from 2 }
     ensures { Met bytes.now words.now from (from + 2) result }
 {
-    let found = meet(Ask::AllFalse, words[from], bytes);
-    match found {
-        Ask::Nothing => found,
-        _ => meet(found, words[from + 1], bytes),
+    let found = meet(0, words[from], bytes);
+    if found == LEAST_END {
+        return found;
     }
+    meet(found, words[from + 1], bytes)
 }
 
 // What three literals from a place on come to. (One function for both would be a loop where this is one line more.)
-fn look_three(words: &[u32], from: usize, bytes: &[u8]) -> Ask
+fn look_three(words: &[u32], from: usize, bytes: &[u8]) -> u32
     requires { LiteralWords (length bytes.now) words.now from 3 }
     ensures { Met bytes.now words.now from (from + 3) result }
 {
     let found = look_two(words, from, bytes);
-    match found {
-        Ask::Nothing => found,
-        _ => meet(found, words[from + 2], bytes),
+    if found == LEAST_END {
+        return found;
     }
+    meet(found, words[from + 2], bytes)
 }
 
 // What the clause that begins at a place asks for. A clause is left as soon as a true literal or a second open one is met.
@@ -105,7 +97,7 @@ fn look(words: &[u32], from: usize, bytes: &[u8]) -> Seen
     requires { ListPasses (length bytes.now) words.now × Ended words.now from }
     ensures { Sees bytes.now words.now from result.found result.at }
 {
-    let mut found = Ask::AllFalse;
+    let mut found = 0;
     let mut at = from;
     'literals: loop {
         let w = words[at];
@@ -113,7 +105,7 @@ fn look(words: &[u32], from: usize, bytes: &[u8]) -> Seen
             return Seen { found, at };
         }
         found = meet(found, w, bytes);
-        if let Ask::Nothing = found {
+        if found == LEAST_END {
             return Seen { found, at };
         }
         at += 1;
@@ -121,7 +113,7 @@ fn look(words: &[u32], from: usize, bytes: &[u8]) -> Seen
 }
 
 // What the clause that begins at a place asks for, and the place behind it. In a list that passes the check an end word with the count of the words before it ends
-// just these, so a clause of two or three literals is known by its end word. Inlined in both passes: a call for each clause makes them a fifth slower.
+// just these, so a clause of two or three literals is known by its end word. Inlined in both passes: with a call for each clause they took 1.3 of the time.
 #[inline(always)]
 fn next(words: &[u32], from: usize, bytes: &[u8]) -> Seen
     requires { ListPasses (length bytes.now) words.now × Between words.now from × (from < length words.now) }
@@ -175,12 +167,14 @@ fn forward(words: &[u32], from: usize, bytes: &mut [u8]) -> Result<Option<usize>
     'clauses: while at < words.len() {
         let s = next(words, at, bytes);
         at = s.at;
-        let w = match s.found {
-            Ask::Nothing => continue 'clauses,
-            Ask::Literal(w) => w,
-            Ask::AllFalse => return Err(Conflict),
-        };
-        put(w, bytes);
+        let found = s.found;
+        if found == LEAST_END {
+            continue 'clauses;
+        }
+        if found == 0 {
+            return Err(Conflict);
+        }
+        put(found, bytes);
         last = at;
     }
     Ok(changed_at(from, last))
@@ -198,12 +192,14 @@ fn backward(words: &[u32], end: usize, bytes: &mut [u8]) -> Result<Option<usize>
         let end_word = words[at - 1];
         at = at - 1 - word::payload_of(end_word) as usize;
         let s = next(words, at, bytes);
-        let w = match s.found {
-            Ask::Nothing => continue 'clauses,
-            Ask::Literal(w) => w,
-            Ask::AllFalse => return Err(Conflict),
-        };
-        put(w, bytes);
+        let found = s.found;
+        if found == LEAST_END {
+            continue 'clauses;
+        }
+        if found == 0 {
+            return Err(Conflict);
+        }
+        put(found, bytes);
         last = at;
     }
     Ok(changed_at(end, last))
@@ -249,6 +245,16 @@ fn settle_all(words: &[u32], bytes: &mut [u8]) -> Result<(), Conflict>
     settle(words, bytes)
 }
 
+// The starting bytes, copied into the buffer. (By a loop: `copy_from_slice` would have C programs bring a `memmove`.)
+fn copy(from: &[u8], to: &mut [u8])
+    requires { length to.old ≡ length from.now }
+    ensures { to.new ≡ from.now }
+{
+    for (i, byte) in from.iter().enumerate() {
+        to[i] = *byte;
+    }
+}
+
 // Refusals 10 to 14, and 19 where the buffer's length is not that of the values.
 #[tactic(auto, unfolding(crate::specs::Reply::input_checked))]
 fn check(values: &[u8], words: &[u32], room: usize) -> Result<(), Refusal>
@@ -268,11 +274,11 @@ fn fill(values: &[u8], words: &[u32], buffer: &mut [u8]) -> Propagated
     requires { input_checked values.now words.now (length buffer.old) ≡ passed }
     ensures { Propagates values.now words.now buffer.old buffer.new (Ok result) }
 {
-    buffer.copy_from_slice(values);
+    copy(values, buffer);
     match settle_all(words, buffer) {
         Ok(()) => Propagated::Settled,
         Err(Conflict) => {
-            buffer.copy_from_slice(values);
+            copy(values, buffer);
             Propagated::Conflict
         }
     }

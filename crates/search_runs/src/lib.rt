@@ -44,44 +44,20 @@ impl<'t, 'w> TwoRuns<'t, 'w> {
         }
     }
 
-    // The finder's reply on the records: those of the first run, near where the lent words guess, then those of the second. Where no record holds the remainder,
-    // the gap in the second run is noted for `put`; it is a guess, of which nothing is promised, so it stands beside the reply.
+    // The finder's reply on the records, and where no record holds the remainder the gap in the second run, noted for `put`.
     pub fn find(&self, near: &mut usize, level: u32, r: Remainder) -> Result<NodeNumber, usize>
         requires { Sorted (labelled self.now.table.now self.now.main) × Sorted (second_run self.now.table.now self.now.main self.now.count) }
         ensures { result ≡ find_in (labelled self.now.table.now self.now.count) level r.0 }
     {
-        let table = &*self.table;
-        let main = self.main;
-        let first_run = Records { table, count: main };
-        let g = search_hints::guess(first_run, &*self.work, level, r);
-        match search_ordered::find_near(Ordered { records: first_run }, g, level, r) {
-            Ok(k) => Ok(k),
-            Err(first) => {
-                let b = main * RECORD;
-                let e = self.count * RECORD;
-                let second_run = Records {
-                    table: &table[b..e],
-                    count: self.count - main,
-                };
-                match search_ordered::find_sorted(
-                    Ordered {
-                        records: second_run,
-                    },
-                    level,
-                    r,
-                ) {
-                    Ok(k) => {
-                        let number = main + k.0;
-                        Ok(NodeNumber(number))
-                    }
-                    Err(second) => {
-                        *near = second;
-                        let gap = first + second;
-                        Err(gap)
-                    }
-                }
-            }
-        }
+        find(
+            &*self.table,
+            &*self.work,
+            self.main,
+            self.count,
+            near,
+            level,
+            r,
+        )
     }
 
     // Merges the two runs into one, by way of the lent words, to which it copies the second.
@@ -144,6 +120,53 @@ impl<'t, 'w> TwoRuns<'t, 'w> {
         };
         search_store::insert(&mut table[b..], n, NodeNumber(gap), level, lower, upper);
         self.count += 1;
+    }
+}
+
+// The finder's reply on the first `count` records of a table in two runs, which need only be read: those of the first run, near where the lent words guess, then
+// those of the second. Where no record holds the remainder, the gap in the second run is noted for `put`; it is a guess, of which nothing is promised, so it
+// stands beside the reply.
+pub fn find(
+    table: &[u32],
+    work: &[u32],
+    main: usize,
+    count: usize,
+    near: &mut usize,
+    level: u32,
+    r: Remainder,
+) -> Result<NodeNumber, usize>
+    requires { (main ≤ count) × RecordsFit count table.now × Sorted (labelled table.now main) × Sorted (second_run table.now main count) }
+    ensures { result ≡ find_in (labelled table.now count) level r.0 }
+{
+    let first_run = Records { table, count: main };
+    let g = search_hints::guess(first_run, work, level, r);
+    match search_ordered::find_near(Ordered { records: first_run }, g, level, r) {
+        Ok(k) => Ok(k),
+        Err(first) => {
+            let b = main * RECORD;
+            let e = count * RECORD;
+            let second_run = Records {
+                table: &table[b..e],
+                count: count - main,
+            };
+            match search_ordered::find_sorted(
+                Ordered {
+                    records: second_run,
+                },
+                level,
+                r,
+            ) {
+                Ok(k) => {
+                    let number = main + k.0;
+                    Ok(NodeNumber(number))
+                }
+                Err(second) => {
+                    *near = second;
+                    let gap = first + second;
+                    Err(gap)
+                }
+            }
+        }
     }
 }
 

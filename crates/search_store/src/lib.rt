@@ -10,12 +10,14 @@ ghost use Rattle.search_store.specs.Insert.{insert_at};
 
 use word::{FIRST, LOWER, NodeNumber, RECORD, UPPER};
 
-// Copies words to the beginning of others.
+// Copies words to the beginning of others. (By a loop: `copy_from_slice` would have C programs bring a `memmove`.)
 pub fn copy_words(from: &[u32], to: &mut [u32])
     requires { length from.now ≤ length to.old }
     ensures { to.new ≡ copied from.now to.old }
 {
-    to[..from.len()].copy_from_slice(from);
+    for (k, w) in from.iter().enumerate() {
+        to[k] = *w;
+    }
 }
 
 // Stores a level and a label at record number k.

@@ -7,8 +7,6 @@ ghost use Rattle.clause.specs.Meaning.{literal_of, literal_true, clauses_of};
 ghost use Rattle.tester.specs.Tested.{tested_values, value_in, values_from, scan, tested};
 ghost use Rattle.clause.specs.Check.{list_from};
 ghost use Rattle.tester.specs.Past.{past_end};
-ghost use Rattle.tester.specs.Kinds.{IsKindOf};
-ghost use Rattle.word.specs.Word.{kind};
 
 use refusal::Refusal;
 use word::Variable;
@@ -18,27 +16,6 @@ use word::Variable;
 pub struct NotTrue {
     pub clause: usize,
     pub at: usize,
-}
-
-// What a word is in a clause list.
-#[derive(Clone, Copy)]
-pub enum ClauseWord {
-    Literal,
-    End,
-    Other,
-}
-
-// By the word's kind.
-impl From<u32> for ClauseWord {
-    fn from(w: u32) -> ClauseWord
-        ensures { IsKindOf result (kind w) }
-    {
-        match word::kind_of(w) {
-            2 => ClauseWord::Literal,
-            3 => ClauseWord::End,
-            _ => ClauseWord::Other,
-        }
-    }
 }
 
 // The value of a Boolean: whether its byte is 1. A Boolean without a byte is false.
@@ -74,22 +51,23 @@ pub fn check_list(known: usize, words: &[u32]) -> Result<(), Refusal>
 {
     let mut count = 0;
     for (at, w) in words.iter().enumerate() {
-        match ClauseWord::from(*w) {
-            ClauseWord::Literal => {
-                let b = word::boolean_of(*w).0 as usize;
-                if b == 0 || known < b {
-                    return Err(Refusal::UnknownBoolean(at));
-                }
-                count += 1;
+        // By the kind's number: by way of an enum made of it the check took up to half as many instructions again.
+        let k = word::kind_of(*w);
+        if k == 3 {
+            if word::payload_of(*w) as usize != count {
+                return Err(Refusal::LiteralCount(at));
             }
-            ClauseWord::End => {
-                if word::payload_of(*w) as usize != count {
-                    return Err(Refusal::LiteralCount(at));
-                }
-                count = 0;
-            }
-            ClauseWord::Other => return Err(Refusal::ClauseWord(at)),
+            count = 0;
+            continue;
         }
+        if k != 2 {
+            return Err(Refusal::ClauseWord(at));
+        }
+        let b = word::boolean_of(*w).0 as usize;
+        if b == 0 || known < b {
+            return Err(Refusal::UnknownBoolean(at));
+        }
+        count += 1;
     }
     if count == 0 {
         Ok(())

@@ -24,23 +24,23 @@ next-s-requires c =
     let i = c.clauses.invariant in
     backwards_look _ _ c.requires.0 _ _ _ _ i.1 i.0 (omega arith) _ (ap (λ (x : ℕ). c.clauses.at - 1 - x) c.payload_of.ensures)
 
-pub clauses-preserved-in-Nothing : goal.clauses-preserved-in-Nothing
-clauses-preserved-in-Nothing c =
+pub clauses-preserved-then-found : goal.clauses-preserved-then-found
+clauses-preserved-then-found c =
     let i = c.clauses.invariant in
     backwards_neither _ _ c.requires.0 _ _ _ _ i.1 i.0 (omega arith) _ (ap (λ (x : ℕ). c.clauses.at - 1 - x) c.payload_of.ensures)
-    _ c.next-s.ensures.0 c.in-Nothing.is
+    _ c.next-s.ensures.0 (omega arith)
 
-pub returns-in-AllFalse : goal.returns-in-AllFalse
-returns-in-AllFalse c =
+pub returns-then-found-eq0 : goal.returns-then-found-eq0
+returns-then-found-eq0 c =
     let i = c.clauses.invariant in
     backwards_falsified _ _ c.requires.0 _ _ _ _ i.1 i.0 (omega arith) _ (ap (λ (x : ℕ). c.clauses.at - 1 - x) c.payload_of.ensures)
-    _ c.next-s.ensures.0 c.in-AllFalse.is
+    _ c.next-s.ensures.0 (omega arith)
 
 pub clauses-preserved : goal.clauses-preserved
 clauses-preserved c =
     let i = c.clauses.invariant in
     backwards_unit _ _ c.requires.0 _ _ _ _ i.1 i.0 (omega arith) _ (ap (λ (x : ℕ). c.clauses.at - 1 - x) c.payload_of.ensures)
-    _ c.next-s.ensures.0 _ c.in-Literal.is _ c.put.ensures
+    _ c.next-s.ensures.0 (λ e. omega (arith, e)) (λ e. omega (arith, e)) _ c.put.ensures
 
 pub returns : goal.returns
 returns c = rw c.changed_at.ensures (backwards_done _ _ c.requires.0 _ _ _ _ c.clauses.invariant.1 (omega arith))

@@ -16,10 +16,10 @@ meet-found-requires c = (
   c.literals.invariant.met.literal,
 )
 
-pub returns-in-Nothing : goal.returns-in-Nothing
-returns-in-Nothing c =
+pub returns-then-found : goal.returns-then-found
+returns-then-found c =
     looking_neither c.args.bytes.now c.args.words.now c.args.from c.literals.found c.literals.at c.literals.invariant
-    c.requires.0 (λ e. omega (arith, e)) c.meet-found.result c.meet-found.ensures c.in-Nothing.is
+    c.requires.0 (λ e. omega (arith, e)) c.meet-found.result c.meet-found.ensures (omega arith)
 
 pub literals-preserved : goal.literals-preserved
 literals-preserved c =
