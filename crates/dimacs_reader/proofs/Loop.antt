@@ -13,15 +13,14 @@ use Rattle.word.proofs.Cleared.{cleared_padded, cleared_all}
 use Rattle.word.proofs.Giving.{gives}
 use Rattle.refusal.specs.declared.Refusal.{Refusal}
 use Rattle.refusal.specs.declared.Refusal.TheVariants.{NoRoom, NotDimacs}
-use Rattle.std.specs.Prelude.{Result, Ok, Err, IfOk}
-use Rattle.std.specs.Result.{result_unwrap_or}
+use Rattle.std.specs.Prelude.{Result, Ok, Err}
 use Rattle.dimacs_text.specs.Claim.{Verdict, words, wrong, Says}
 use Rattle.dimacs_text.specs.Reply.{converted_values, words_reply, words_said, converted_left}
 use Rattle.dimacs_text.specs.Machine.{State, Next, bad, on, put, step, final, one_later, with_word, go_on, run, start, GoodState}
 use Rattle.dimacs_text.proofs.Fit.{Keeps, keeps}
 use Rattle.dimacs_text.proofs.Verdicts.{run_says}
 use Rattle.dimacs_text.proofs.Fitted.{fitted_in, fitted_out, left_as}
-use Rattle.dimacs_reader.specs.Reads.{Puts, Reads}
+use Rattle.dimacs_reader.specs.Reads.{Reads}
 
 -- what is said of the whole, where i bytes said the words acc and the rest says v
 abbrev from : List ℕ → ℕ → Verdict → Verdict
@@ -104,11 +103,22 @@ module _ {t first out : List ℕ} {s : State} {n i : ℕ} (m : Mid t first out s
 
   -- ---- The ways out
 
-  puts_none : (v : Verdict) → run start t ≡ v → (x : Refusal) → words_reply v (length first) ≡ Err x → Puts t first out (Err x)
-  puts_none v e x p = record { verdict = v; says = subst (Says t) e (run_says t); reply = sym p; front = tt; kept = m.size }
+  reads_as : (v : Verdict) → run start t ≡ v → (last : List ℕ) (r : Result ℕ Refusal) → words_reply v (length first) ≡ r → last ≡ converted_left r (length first) (words_said v)
+      → Reads t first last r
+  reads_as v e last r p q =
+      record {
+        verdict = v;
+        says = subst (Says t) e (run_says t);
+        reply = gives converted_values (sym p);
+        list = q ∙ left_as (words_reply v (length first)) r (length first) (words_said v) p;
+      }
 
-  pub exit_bad : i < length t → bad ≡ step s (get_or t i 0) → Puts t first out (Err (NotDimacs i))
-  exit_bad h e = puts_none (wrong i) (m.so_far ∙ ap (from m.acc i) (turn h bad e) ∙ ap wrong (omega arith)) (NotDimacs i) refl
+  zeros : {last : List ℕ} → last ≡ cleared 0 out → last ≡ replicate (length first) 0
+  zeros q = q ∙ cleared_all out ∙ ap (λ (k : ℕ). replicate k 0) m.size
+
+  pub exit_bad : i < length t → bad ≡ step s (get_or t i 0) → {last : List ℕ} → last ≡ cleared 0 out → Reads t first last (Err (NotDimacs i))
+  exit_bad h e {last} q =
+      reads_as (wrong i) (m.so_far ∙ ap (from m.acc i) (turn h bad e) ∙ ap wrong (omega arith)) last (Err (NotDimacs i)) refl (zeros q)
 
   module _ (h : length t ≤ i) where
     ended : (b : Bool) → b ≡ final s → run start t ≡ from m.acc i (cond b (words []) (wrong 0))
@@ -118,36 +128,19 @@ module _ {t first out : List ℕ} {s : State} {n i : ℕ} (m : Mid t first out s
         ∙ ap (λ (x : List ℕ). from m.acc i (run s x)) (drop_of_length-le t h)
         ∙ ap (λ (q : Bool). from m.acc i (cond q (words []) (wrong 0))) (sym e)
 
-    pub exit_short : false ≡ final s → Puts t first out (Err (NotDimacs (length t)))
-    exit_short e = puts_none (wrong (length t)) (ended false e ∙ ap wrong (omega (arith, m.within))) (NotDimacs (length t)) refl
+    pub exit_short : false ≡ final s → {last : List ℕ} → last ≡ cleared 0 out → Reads t first last (Err (NotDimacs (length t)))
+    exit_short e {last} q =
+        reads_as (wrong (length t)) (ended false e ∙ ap wrong (omega (arith, m.within))) last (Err (NotDimacs (length t))) refl (zeros q)
 
     whole : true ≡ final s → run start t ≡ words m.acc
     whole e = ended true e ∙ ap words (append-nil m.acc)
 
-    pub exit_room : true ≡ final s → length out < n → Puts t first out (Err NoRoom)
-    exit_room e k = puts_none (words m.acc) (whole e) NoRoom (fitted_out m.acc (length first) (omega (arith, m.size, m.many)))
+    pub exit_room : true ≡ final s → length out < n → {last : List ℕ} → last ≡ cleared 0 out → Reads t first last (Err NoRoom)
+    exit_room e k {last} q =
+        reads_as (words m.acc) (whole e) last (Err NoRoom) (fitted_out m.acc (length first) (omega (arith, m.size, m.many))) (zeros q)
 
-    pub exit_all : true ≡ final s → n ≤ length out → Puts t first out (Ok n)
-    exit_all e k =
-        record {
-          verdict = words m.acc;
-          says = subst (Says t) (whole e) (run_says t);
-          reply = ap Ok m.many ∙ sym (fitted_in m.acc (length first) (omega (arith, m.size, m.many)));
-          front = (m.kept k, sym m.many);
-          kept = m.size;
-        }
-
--- what stands behind the words cleared, the promise is kept
-pub puts_reads : {t first out last : List ℕ} {n : ℕ} (r : Result ℕ Refusal) → Puts t first out r → n ≡ result_unwrap_or r 0 → last ≡ cleared n out → Reads t first last r
-puts_reads {t} {first} {out} {last} r p e q =
-    record {
-      verdict = p.verdict;
-      says = p.says;
-      reply = gives converted_values p.reply;
-      list = q ∙ ap (λ (k : ℕ). cleared k out) e ∙ left r p.front ∙ left_as (words_reply p.verdict (length first)) r (length first) (words_said p.verdict) (sym p.reply);
-    }
-  where
-    left : (r : Result ℕ Refusal) → IfOk r (λ n. (take n out ≡ words_said p.verdict) × (length (words_said p.verdict) ≡ n))
-        → cleared (result_unwrap_or r 0) out ≡ converted_left r (length first) (words_said p.verdict)
-    left (Ok n) f = cleared_padded out (words_said p.verdict) (length first) n f.0 f.1 p.kept
-    left (Err x) f = cleared_all out ∙ ap (λ (k : ℕ). replicate k 0) p.kept
+    pub exit_all : true ≡ final s → n ≤ length out → {last : List ℕ} → last ≡ cleared n out → Reads t first last (Ok n)
+    exit_all e k {last} q =
+        reads_as (words m.acc) (whole e) last (Ok n)
+        (fitted_in m.acc (length first) (omega (arith, m.size, m.many)) ∙ ap Ok (sym m.many))
+        (q ∙ cleared_padded out m.acc (length first) n (m.kept k) (sym m.many) m.size)
